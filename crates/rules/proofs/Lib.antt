@@ -1,3 +1,5 @@
 pub mod Used
 pub mod Hulls
 pub mod Tight
+pub mod OneWidest
+pub mod Agree

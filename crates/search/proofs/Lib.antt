@@ -1,0 +1,3 @@
+pub mod Inversion
+pub mod Unique
+pub mod Right
