@@ -1,3 +1,6 @@
 pub mod Inversion
 pub mod Unique
 pub mod Right
+pub mod Falls
+pub mod Ceiling
+pub mod Limit
