@@ -4,3 +4,7 @@ pub mod Right
 pub mod Falls
 pub mod Ceiling
 pub mod Limit
+pub mod Run
+pub mod Number
+pub mod Inputs
+pub mod Order
