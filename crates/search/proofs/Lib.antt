@@ -1,3 +1,4 @@
+pub mod Outcomes
 pub mod Inversion
 pub mod Unique
 pub mod Right

@@ -1,13 +1,13 @@
 -- The limit decides between an answer and giving up, and nothing else: an answer has one count at every limit that reaches it.
 -- Assumes nothing.
-use mathlib.Core.Path.{_≡_, refl}
 use mathlib.Core.Logic.{_≢_}
 use mathlib.Core.List.{List}
-use Prim.Native.Nat.{ℕ, suc, _≤_, _<_}
+use Prim.Native.Nat.{ℕ, _≤_}
 use native.Mathlib.Nat.{le-refl, le-trans}
 use native.Mathlib.Omega.{arith}
 use Rattle.words.specs.Table.{Table}
-use Rattle.search.specs.Search.{Outcome, found, none, gave-up, count, Ends, ends-found, ends-gave-up, Search, conflict, settled, stopped, first, second}
+use Rattle.search.specs.Search.{Outcome, found, none, gave-up, Search, conflict, settled, stopped, first, second}
+use Rattle.search.proofs.Outcomes.{found-not-gave-up, none-not-gave-up}
 
 -- an answer: FOUND or NONE, with its count
 pub data Answer : Outcome → ℕ → Type 0 where
@@ -15,8 +15,8 @@ pub data Answer : Outcome → ℕ → Type 0 where
   answer-none : {n : ℕ} → Answer (none n) n
 
 pub answer-not : {o : Outcome} {n : ℕ} → Answer o n → o ≢ gave-up
-answer-not answer-found e = let z : _≡_ {A = ℕ} 0 1 = cc in omega arith
-answer-not answer-none e = let z : _≡_ {A = ℕ} 0 1 = cc in omega arith
+answer-not answer-found e = found-not-gave-up e
+answer-not answer-none e = none-not-gave-up e
 
 module _ {Tight : Table → Type 0} where
   -- guesses are only added

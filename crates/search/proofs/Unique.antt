@@ -2,14 +2,14 @@
 -- Assumes nothing.
 use mathlib.Core.Path.{_≡_, sym}
 use Prim.Native.Nat.{ℕ, suc}
-use native.Mathlib.Omega.{arith}
 use Rattle.words.specs.Table.{Table, with0, with1}
 use Rattle.search.specs.Search.{Outcome, none, Ends, ends-found, ends-gave-up, Search, conflict, settled, stopped, first, second}
+use Rattle.search.proofs.Outcomes.{found-not-none, none-not-gave-up}
 use Rattle.search.proofs.Inversion.{Branches, branch0, branch1, at-conflict, at-done, at-limit, at-guess}
 
 not-none : {o : Outcome} {n : ℕ} → Ends o → o ≡ none n → ⊥
-not-none ends-found e = let z : _≡_ {A = ℕ} 0 1 = cc in omega arith
-not-none ends-gave-up e = let z : _≡_ {A = ℕ} 0 1 = cc in omega arith
+not-none ends-found e = found-not-none e
+not-none ends-gave-up e = none-not-gave-up (sym e)
 
 module _ (Tight : Table → Type 0) (limit : ℕ) where
   pub one-outcome : {t : Table} {g : ℕ} {o o′ : Outcome} → Search Tight limit t g o → Search Tight limit t g o′ → o ≡ o′
