@@ -6,3 +6,9 @@ pub mod Choices
 pub mod FitTest
 pub mod Listing
 pub mod ListedHull
+pub mod Propers
+pub mod Narrowed
+pub mod Held
+pub mod Steps
+pub mod Found
+pub mod Widest
