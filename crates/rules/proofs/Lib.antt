@@ -3,3 +3,14 @@ pub mod Hulls
 pub mod Tight
 pub mod OneWidest
 pub mod Agree
+pub mod Propers
+pub mod Lists
+pub mod Choices
+pub mod FitTest
+pub mod Listing
+pub mod ListedHull
+pub mod Narrowed
+pub mod Held
+pub mod Steps
+pub mod Found
+pub mod Widest

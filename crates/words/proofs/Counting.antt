@@ -1,14 +1,14 @@
 -- The count of ones in lo xor hi is the number of open bits, counted one by one.
 -- Assumes nothing.
 use mathlib.Core.Path.{_≡_, refl, sym, ap, _∙_}
-use Prim.Native.Nat.{ℕ, zero, suc, _+_, _-_, _/_, _%_, _^_, _≤_, _<_}
+use Prim.Native.Nat.{ℕ, zero, suc, _+_, _/_, _%_, _^_, _<_}
 use native.Mathlib.Nat.{pow-suc}
 use native.Mathlib.Omega.{arith}
 use lib.Count.{ones, ones-step}
 use Rattle.words.specs.Bits.{bit, _⊑_}
 use Rattle.words.specs.Word.{Bounded, openIn}
 use Rattle.words.specs.Count.{openAmong}
-use Rattle.words.proofs.Order.{bit-zero, bit-suc, bit-lt, ⊑-le}
+use Rattle.words.proofs.Order.{bit-zero, bit-suc, ⊑-le}
 use Rattle.words.proofs.Falls.{open-ones}
 
 -- the ones among the lowest w bits
@@ -43,12 +43,3 @@ open-one-by-one w lo hi h =
       among-all w hi (h .below),
       among-all w lo (omega (arith, ⊑-le lo hi (h .under), h .below)),
     )
-
--- so there are at most as many as the width
-pub open-most : (w lo hi : ℕ) → Bounded w lo hi → openIn lo hi ≤ w
-unfolding openAmong
-open-most w lo hi h = omega (arith, open-one-by-one w lo hi h, most w)
-  where
-    most : (n : ℕ) → openAmong n lo hi ≤ n
-    most zero = omega arith
-    most (suc n) = omega (arith, most n, bit-lt hi n)
