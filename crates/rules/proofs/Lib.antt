@@ -1,3 +1,6 @@
+pub mod SmtLibNumbers
+pub mod SmtLibKinds
+pub mod SmtLib
 pub mod Used
 pub mod Hulls
 pub mod Tight
