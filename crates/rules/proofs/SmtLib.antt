@@ -4,7 +4,7 @@
 use mathlib.Core.Path.{_≡_, sym, ap, _∙_}
 use mathlib.Core.Logic.{_⊎_, inl, inr, _↔_}
 use mathlib.Core.Bool.{Bool, true, false}
-use Prim.Native.Nat.{ℕ, _+_, _-_, _*_, _/_, _^_, _≤_, _<_}
+use Prim.Native.Nat.{ℕ, _+_, _-_, _*_, _/_, _^_, _<_}
 use native.Mathlib.Omega.{arith}
 use native.Mathlib.Decide.{decLt}
 use lib.Dec.{T, eqb}
@@ -75,11 +75,11 @@ module _ (m a b : ℕ) (la : a < 2 ^ m) (lb : b < 2 ^ m) where
 pub compares-smtlib : (x : Rel) (m a b : ℕ) → a < 2 ^ m → b < 2 ^ m → Compares x a b ↔ Denoted x m (bit a) (bit b)
 compares-smtlib ULE m a b la lb = rw (bv2nat-bits m a la, bv2nat-bits m b lb) (λ l. to l (decLt a b), from)
   where
-    to : a ≤ b → Dec (a < b) → (a < b) ⊎ Equal m (bit a) (bit b)
+    to : Compares ULE a b → Dec (a < b) → (a < b) ⊎ Equal m (bit a) (bit b)
     to l (yes h) = inl h
     to l (no h) = inr (same-equal m a b la lb (omega arith))
 
-    from : (a < b) ⊎ Equal m (bit a) (bit b) → a ≤ b
+    from : (a < b) ⊎ Equal m (bit a) (bit b) → Compares ULE a b
     from (inl h) = omega arith
     from (inr e) = omega (arith, equal-same m a b la lb e)
 compares-smtlib ULT m a b la lb = rw (bv2nat-bits m a la, bv2nat-bits m b lb) (λ h. h, λ h. h)

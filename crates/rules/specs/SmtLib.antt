@@ -9,10 +9,11 @@ use lib.Dec.{eqb, ltb}
 use Rattle.words.specs.Bits.{bit}
 use Rattle.rules.specs.Kinds.{Place, R, B, Op, COPY, NOT, AND, OR, XOR, ADD, ITE, SLICE, JOIN, SHL, SHR, Rel, ULE, ULT, NE}
 
--- a bit-vector of size m is a function from [0, m) to {0, 1}; here it is read below m only
+-- "a bit-vector of size m is a function from [0, m) to {0, 1}": here a function that is read below m only
 abbrev pub Vector : Type 0
 Vector = ℕ → ℕ
 
+-- b is a bit-vector of size m
 abbrev pub Sized : ℕ → Vector → Type 0
 Sized m b = (x : ℕ) → x < m → b x < 2
 
@@ -66,11 +67,12 @@ bvshl m s k = nat2bv m (bv2nat m s * 2 ^ k)
 abbrev pub bvlshr : ℕ → Vector → ℕ → Vector
 bvlshr m s k = nat2bv m (bv2nat m s / 2 ^ k)
 
--- (ite c t1 t2) returns its second argument or its third, depending on whether its first is true or not; c is (= s #b1), with [[#b1]] := λx:[0, 1). 1
+-- (ite c t1 t2) returns its second argument or its third depending on whether its first argument is true or not;
+-- here c is (= s #b1), where s is of size 1 and [[#b1]] := λx:[0, 1). 1
 abbrev pub ite : Vector → Vector → Vector → Vector
 ite s t1 t2 = λ x. if eqb (s 0) 1 then t1 x else t2 x
 
--- (= s t) returns true iff its two arguments are identical
+-- (= s t) returns true iff its two arguments are identical: for size m, the same bit at each place below m
 abbrev pub Equal : ℕ → Vector → Vector → Type 0
 Equal m s t = (x : ℕ) → x < m → s x ≡ t x
 
@@ -92,7 +94,7 @@ denoted JOIN w k a b s = concat (w B) a b
 denoted SHL w k a b s = bvshl (w R) a k
 denoted SHR w k a b s = bvlshr (w R) a k
 
--- (bvule s t) abbreviates (or (bvult s t) (= s t)); (distinct s t) is (not (= s t))
+-- (bvule s t) abbreviates (or (bvult s t) (= s t)); (distinct s t) returns true iff its two arguments are not identical
 abbrev pub Denoted : Rel → ℕ → Vector → Vector → Type 0
 Denoted ULE m s t = Bvult m s t ⊎ Equal m s t
 Denoted ULT m s t = Bvult m s t
