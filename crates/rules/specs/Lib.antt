@@ -1,6 +1,7 @@
 pub mod Kinds
 pub mod Rows
 pub mod Meaning
+pub mod SmtLib
 pub mod Fits
 pub mod Tight
 pub mod Proper
