@@ -9,3 +9,5 @@ pub mod Run
 pub mod Number
 pub mod Inputs
 pub mod Order
+pub mod Solved
+pub mod Problem
