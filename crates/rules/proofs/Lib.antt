@@ -18,3 +18,4 @@ pub mod Held
 pub mod Steps
 pub mod Found
 pub mod Widest
+pub mod LeastInputs

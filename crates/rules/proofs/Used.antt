@@ -30,13 +30,13 @@ only-used (rel ULE) w k f g e h = omega (arith, e A tt, e B tt)
 only-used (rel ULT) w k f g e h = omega (arith, e A tt, e B tt)
 only-used (rel NE) w k f g e h = omega (arith, e A tt, e B tt)
 
-A≢R : A ≢ R
+pub A≢R : A ≢ R
 A≢R e = let z : _≡_ {A = ℕ} 0 1 = cc in omega arith
 
-B≢R : B ≢ R
+pub B≢R : B ≢ R
 B≢R e = let z : _≡_ {A = ℕ} 0 1 = cc in omega arith
 
-S≢R : S ≢ R
+pub S≢R : S ≢ R
 S≢R e = let z : _≡_ {A = ℕ} 0 1 = cc in omega arith
 
 -- a kind that uses r computes it: it gives one value at r for the values at its other places

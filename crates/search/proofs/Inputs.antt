@@ -32,8 +32,8 @@ inputs-drive w rs t m inputs = record { drives = λ u i j tu p g. go u i j tu p 
     no-guess : (u : Table) (i j : ℕ) → Tight w rs u → Inside u t → Guess u i j → ((b : ℕ) → ¬ Open t i b) ⊎ Computed rs i → ⊥
     no-guess u i j tu p g (inl n) = n j (open-wider p (g .here))
     no-guess u i j tu p g (inr c) =
-        result-fixed (tu .each (c .number) (c .listed)) (c .computing)
-        (λ q v d. word-closed _ p (λ b. g .lowest _ b (c .below q v d))) j (rw (c .result) (g .here))
+        result-fixed (tu .each (c .number) (c .listed)) (c .computes .computing)
+        (λ q v d. word-closed _ p (λ b. g .lowest _ b (c .computes .below q v d))) j (rw (c .computes .result) (g .here))
 
     go : (u : Table) (i j : ℕ) → Tight w rs u → Inside u t → Guess u i j → Dec (i < m) → i < m
     go u i j tu p g (yes l) = l
@@ -45,9 +45,7 @@ module _ {rs rs′ : List Rule} (e : Listed rs rs′) where
   computed-listed c = record {
     number = e .number (c .number) (c .listed);
     listed = e .reached (c .number) (c .listed);
-    computing = rw (e .equal (c .number) (c .listed)) (c .computing);
-    result = rw (e .equal (c .number) (c .listed)) (c .result);
-    below = rw (e .equal (c .number) (c .listed)) (c .below);
+    computes = rw (e .equal (c .number) (c .listed)) (c .computes);
   }
 
   -- rules added leave inputs what they are

@@ -11,3 +11,4 @@ pub mod Inputs
 pub mod Order
 pub mod Solved
 pub mod Problem
+pub mod TheCeiling

@@ -1,13 +1,15 @@
--- The count of ones in lo xor hi is the number of open bits, counted one by one.
+-- The count of ones in lo xor hi is the number of open bits, counted one by one; and fewer words have no more of them.
 -- Assumes nothing.
 use mathlib.Core.Path.{_≡_, refl, sym, ap, _∙_}
-use Prim.Native.Nat.{ℕ, zero, suc, _+_, _/_, _%_, _^_, _<_}
-use native.Mathlib.Nat.{pow-suc}
+use Prim.Native.Nat.{ℕ, zero, suc, _+_, _/_, _%_, _^_, _≤_, _<_}
+use native.Mathlib.Nat.{pow-suc, le-refl}
 use native.Mathlib.Omega.{arith}
+use native.Mathlib.Decide.{ℕ-discrete}
 use lib.Count.{ones, ones-step}
 use Rattle.words.specs.Bits.{bit, _⊑_}
 use Rattle.words.specs.Word.{Bounded, openIn}
-use Rattle.words.specs.Count.{openAmong}
+use Rattle.words.specs.Table.{Table}
+use Rattle.words.specs.Count.{openAmong, openBelow}
 use Rattle.words.proofs.Order.{bit-zero, bit-suc, ⊑-le}
 use Rattle.words.proofs.Falls.{open-ones}
 
@@ -43,3 +45,15 @@ open-one-by-one w lo hi h =
       among-all w hi (h .below),
       among-all w lo (omega (arith, ⊑-le lo hi (h .under), h .below)),
     )
+
+-- fewer words have no more open bits
+pub fewer-words : (t : Table) (m n : ℕ) → m ≤ n → openBelow m t ≤ openBelow n t
+unfolding openBelow
+fewer-words t m zero l =
+    let e : m ≡ 0 = omega arith in
+    rw e (omega arith)
+fewer-words t m (suc n) l = go (ℕ-discrete m (suc n)) (λ k. fewer-words t m n k)
+  where
+    go : Dec (m ≡ suc n) → (m ≤ n → openBelow m t ≤ openBelow n t) → openBelow m t ≤ openBelow (suc n) t
+    go (yes e) ih = rw e (le-refl _)
+    go (no d) ih = omega (arith, ih (omega arith))
