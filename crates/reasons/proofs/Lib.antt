@@ -1,1 +1,6 @@
 pub mod One
+pub mod Opened
+pub mod Rising
+pub mod Listed
+pub mod Kept
+pub mod Least

@@ -6,7 +6,7 @@ use Prim.Native.Nat.{ℕ}
 use Rattle.rules.specs.Kinds.{Place}
 use Rattle.rules.specs.Meaning.{Shape}
 use Rattle.rules.specs.Fits.{Span}
-use Rattle.reasons.specs.Says.{Answer, CONFLICT, FORCED, FREE, Says, says-conflict, says-forced, says-free}
+use Rattle.reasons.specs.Says.{Answer, FORCED, Says, says-conflict, says-forced, says-free}
 use Rattle.reasons.specs.Reason.{Spot, entry, Reason, all-seen, dropped, kept, Explains, no-reason, with-reason}
 
 pub one-answer : {σ : Shape} {t : Span} {p : Place} {j : ℕ} {x y : Answer} → Says σ t p j x → Says σ t p j y → x ≡ y
