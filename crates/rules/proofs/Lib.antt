@@ -1,3 +1,14 @@
 pub mod Used
 pub mod Hulls
 pub mod Tight
+pub mod Lists
+pub mod Choices
+pub mod FitTest
+pub mod Listing
+pub mod ListedHull
+pub mod Propers
+pub mod Narrowed
+pub mod Held
+pub mod Steps
+pub mod Found
+pub mod Widest
