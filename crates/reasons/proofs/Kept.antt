@@ -23,7 +23,7 @@ free-wider h (says-free fit git d) = says-free (within-fit h fit) (within-fit h 
 -- an answer that holds for narrow bounds and for wide ones holds for those between
 pub says-between : {σ : Shape} {s t u : Span} {p : Place} {j : ℕ} {x : Answer} → Within s t → Within t u → Says σ s p j x → Says σ u p j x → Says σ t p j x
 says-between h k (says-conflict n) (says-conflict m) = says-conflict (λ f fit. m f (within-fit k fit))
-says-between h k (says-forced fit a) (says-forced git c) = says-forced (within-fit h fit) (λ g e. c g (within-fit k e))
+says-between h k (says-forced b fit a) (says-forced c git d) = says-forced b (within-fit h fit) (λ g e. d g (within-fit k e))
 says-between h k (says-free fit git d) (says-free a c e) = says-free (within-fit h fit) (within-fit h git) d
 
 -- bits alone are in wider bounds

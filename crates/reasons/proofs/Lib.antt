@@ -4,3 +4,5 @@ pub mod Rising
 pub mod Listed
 pub mod Kept
 pub mod Least
+pub mod Answered
+pub mod Explained

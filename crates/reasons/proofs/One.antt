@@ -11,13 +11,13 @@ use Rattle.reasons.specs.Reason.{Spot, entry, Reason, all-seen, dropped,
 
 pub one-answer : {σ : Shape} {t : Span} {p : Place} {j : ℕ} {x y : Answer} → Says σ t p j x → Says σ t p j y → x ≡ y
 one-answer (says-conflict n) (says-conflict m) = refl
-one-answer (says-conflict n) (says-forced {f = f} h a) = absurd (n f h)
+one-answer (says-conflict n) (says-forced {f = f} b h a) = absurd (n f h)
 one-answer (says-conflict n) (says-free {f = f} h k d) = absurd (n f h)
-one-answer (says-forced {f = f} h a) (says-conflict n) = absurd (n f h)
-one-answer (says-forced {f = f} h a) (says-forced k e) = ap FORCED (sym (a f h) ∙ e f h)
-one-answer (says-forced h a) (says-free {f = f} {g = g} k l d) = absurd (d (a f k ∙ sym (a g l)))
+one-answer (says-forced {f = f} b h a) (says-conflict n) = absurd (n f h)
+one-answer (says-forced {f = f} b h a) (says-forced c k e) = ap FORCED (sym (a f h) ∙ e f h)
+one-answer (says-forced b h a) (says-free {f = f} {g = g} k l d) = absurd (d (a f k ∙ sym (a g l)))
 one-answer (says-free {f = f} h k d) (says-conflict n) = absurd (n f h)
-one-answer (says-free {f = f} {g = g} k l d) (says-forced h a) = absurd (d (a f k ∙ sym (a g l)))
+one-answer (says-free {f = f} {g = g} k l d) (says-forced b h a) = absurd (d (a f k ∙ sym (a g l)))
 one-answer (says-free h k d) (says-free h′ k′ d′) = refl
 
 pub one-reason : {σ : Shape} {p : Place} {j : ℕ} {x : Answer} {t : Span} {ns : List Spot} {out out′ : List ℕ}

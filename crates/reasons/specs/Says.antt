@@ -18,6 +18,6 @@ pub data Says (σ : Shape) (t : Span) (p : Place) (j : ℕ) : Answer → Type 0 
   -- no fit
   says-conflict : ((f : Place → ℕ) → ¬ Fit σ t f) → Says σ t p j CONFLICT
   -- a fit, and in every fit the bit is b
-  says-forced : {f : Place → ℕ} {b : ℕ} → Fit σ t f → ((g : Place → ℕ) → Fit σ t g → bit (g p) j ≡ b) → Says σ t p j (FORCED b)
+  says-forced : {f : Place → ℕ} (b : ℕ) → Fit σ t f → ((g : Place → ℕ) → Fit σ t g → bit (g p) j ≡ b) → Says σ t p j (FORCED b)
   -- two fits that differ in the bit
   says-free : {f g : Place → ℕ} → Fit σ t f → Fit σ t g → bit (f p) j ≢ bit (g p) j → Says σ t p j FREE
