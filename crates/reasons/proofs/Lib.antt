@@ -1,5 +1,6 @@
 pub mod One
 pub mod Opened
+pub mod Fixed
 pub mod Rising
 pub mod Listed
 pub mod Kept

@@ -1,16 +1,17 @@
 -- The reason for an answer: the fixed bits of a rule's places that remain when each is dropped in turn where the answer stays the same.
 -- A dropped bit is treated as open at its place only, so all this is over a rule's own places; a table comes in by `shape w ρ` and `span t ρ`.
 -- Assumes nothing: these are definitions.
+use mathlib.Core.Path.{_≡_}
 use mathlib.Core.Bool.{cond}
 use mathlib.Core.Logic.{_≢_}
 use mathlib.Core.List.{List, [], _∷_, _++_}
-use Prim.Native.Nat.{ℕ, zero, suc, _+_, _-_, _*_, _^_}
+use Prim.Native.Nat.{ℕ, zero, suc, _+_, _-_, _*_, _^_, _<_}
 use lib.Dec.{eqb}
 use Rattle.words.specs.Bits.{bit}
 use Rattle.rules.specs.Kinds.{Place, R, A, B, S}
 use Rattle.rules.specs.Rows.{uses}
 use Rattle.rules.specs.Meaning.{Shape}
-use Rattle.rules.specs.Fits.{Span}
+use Rattle.rules.specs.Fits.{Span, Uses}
 use Rattle.reasons.specs.Says.{Answer, FREE, Says}
 
 -- places by their numbers: 0 r, 1 a, 2 b, 3 s
@@ -50,6 +51,12 @@ pub data Reason (σ : Shape) (p : Place) (j : ℕ) (x : Answer) : Span → List 
       → Reason σ p j x (opened t q b) ns out → Reason σ p j x t (spot q b ∷ ns) out
   kept : {t : Span} {q : Place} {b : ℕ} {ns : List Spot} {out : List ℕ} → ¬ Says σ (opened t q b) p j x
       → Reason σ p j x t ns out → Reason σ p j x t (spot q b ∷ ns) (entry q b ∷ out)
+
+-- bit b of place p is a fixed bit of the rule's places
+pub record Fixed (σ : Shape) (t : Span) (p : Place) (b : ℕ) : Type 0 where
+  pub used : Uses σ p
+  pub below : b < σ .width p
+  pub same : bit (t .lo p) b ≡ bit (t .hi p) b
 
 -- the fixed bits of place p among n bits from bit b upwards
 unfoldable pub fixedFrom : Span → Place → ℕ → ℕ → List Spot
