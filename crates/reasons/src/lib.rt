@@ -1,0 +1,1 @@
+// One bit at one place explained: definitions in specs/, laws in proofs/. There is no code here that runs.
