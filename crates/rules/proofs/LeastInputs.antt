@@ -20,7 +20,7 @@ use Rattle.rules.proofs.Used.{A≢R, B≢R, S≢R}
 
 -- ---- numbers with a property that can be decided
 
-some-below : (P : ℕ → Type 0) → ((n : ℕ) → Dec (P n)) → (k : ℕ) → Dec ((n : ℕ) × (n < k) × P n)
+unfoldable pub some-below : (P : ℕ → Type 0) → ((n : ℕ) → Dec (P n)) → (k : ℕ) → Dec ((n : ℕ) × (n < k) × P n)
 some-below P dec zero = no (λ x. absurd (omega (arith, x .1)))
 some-below P dec (suc k) = go (dec k) (some-below P dec k)
   where
@@ -34,7 +34,7 @@ some-below P dec (suc k) = go (dec k) (some-below P dec k)
         split x (no d) = f (x .0, omega (arith, x .1), x .2)
 
 -- from some m on the property holds as far as n, and from no smaller one
-least-from : (P : ℕ → Type 0) → ((i : ℕ) → Dec (P i)) → (n : ℕ)
+unfoldable pub least-from : (P : ℕ → Type 0) → ((i : ℕ) → Dec (P i)) → (n : ℕ)
     → (m : ℕ) × ((i : ℕ) → m ≤ i → i < n → P i) × ((k : ℕ) → ((i : ℕ) → k ≤ i → i < n → P i) → m ≤ k)
 least-from P dec n = down n (omega arith) (λ i l k. absurd (omega arith))
   where
@@ -60,7 +60,7 @@ least-from P dec n = down n (omega arith) (λ i l k. absurd (omega arith))
 -- ---- words that follow
 
 module _ (ρ : Rule) (i : ℕ) where
-  dec-used : (p : Place) → Dec (T (uses (kindOf (ρ .kind)) p) → word ρ p < i)
+  unfoldable pub dec-used : (p : Place) → Dec (T (uses (kindOf (ρ .kind)) p) → word ρ p < i)
   dec-used p = go (uses (kindOf (ρ .kind)) p) (decLt (word ρ p) i)
     where
       go : (b : Bool) → Dec (word ρ p < i) → Dec (T b → word ρ p < i)
@@ -68,7 +68,7 @@ module _ (ρ : Rule) (i : ℕ) where
       go true (yes l) = yes (λ u. l)
       go true (no n) = no (λ h. n (h tt))
 
-  dec-computes : Dec (Computes ρ i)
+  unfoldable pub dec-computes : Dec (Computes ρ i)
   dec-computes = go (uses (kindOf (ρ .kind)) R) refl (ℕ-discrete (ρ .r) i) (dec-used A) (dec-used B) (dec-used S)
     where
       go : (b : Bool) → uses (kindOf (ρ .kind)) R ≡ b → Dec (ρ .r ≡ i) → Dec (T (uses (kindOf (ρ .kind)) A) → ρ .a < i)
@@ -82,14 +82,14 @@ module _ (ρ : Rule) (i : ℕ) where
           yes (record { computing = rw e tt; result = x; below = λ p. elim p [ R ↦ λ u d. absurd (d refl) | A ↦ λ u d. a u | B ↦ λ u d. b u | S ↦ λ u d. s u ] })
 
 module _ (rs : List Rule) (t : Table) (whole : Inside t t) where
-  dec-computed : (i : ℕ) → Dec (Computed rs i)
+  unfoldable pub dec-computed : (i : ℕ) → Dec (Computed rs i)
   dec-computed i = go (some-below (λ n. Computes (rule rs n) i) (λ n. dec-computes (rule rs n) i) (length rs))
     where
       go : Dec ((n : ℕ) × (n < length rs) × Computes (rule rs n) i) → Dec (Computed rs i)
       go (yes x) = yes (record { number = x .0; listed = x .1; computes = x .2 })
       go (no f) = no (λ c. f (c .number, c .listed, c .computes))
 
-  dec-follows : (i : ℕ) → Dec (((j : ℕ) → ¬ Open t i j) ⊎ Computed rs i)
+  unfoldable pub dec-follows : (i : ℕ) → Dec (((j : ℕ) → ¬ Open t i j) ⊎ Computed rs i)
   dec-follows i = go (ℕ-discrete (at (t .lo) i) (at (t .hi) i)) (dec-computed i)
     where
       go : Dec (at (t .lo) i ≡ at (t .hi) i) → Dec (Computed rs i) → Dec (((j : ℕ) → ¬ Open t i j) ⊎ Computed rs i)
@@ -101,7 +101,8 @@ module _ (rs : List Rule) (t : Table) (whole : Inside t t) where
           neither (inl f) = let (j, off, on) = open-between (whole .mid i) d in f j (record { off = off; on = on })
           neither (inr c) = n c
 
-  pub least-inputs : (m : ℕ) × Inputs rs t m × ((k : ℕ) → Inputs rs t k → m ≤ k)
+  unfoldable pub least-inputs : (m : ℕ) × Inputs rs t m × ((k : ℕ) → Inputs rs t k → m ≤ k)
+  unfolding least-from dec-follows dec-computed some-below dec-computes dec-used decLt ℕ-discrete kindOf
   least-inputs =
       let (m, h, l) = least-from (λ i. ((j : ℕ) → ¬ Open t i j) ⊎ Computed rs i) dec-follows (length (t .lo)) in
       (m, record { follows = h }, λ k x. l k (x .follows))

@@ -6,8 +6,11 @@ use native.Mathlib.Nat.{lt-of-lt-of-le}
 use native.Mathlib.Omega.{arith}
 use native.Mathlib.Decide.{decLt}
 use lib.ListN.{length, List·getD-eq-default}
+use lib.Count.{leadingZeros}
 use lib.Pow.{pow-mono}
-use Rattle.words.specs.Table.{Table, at}
+use Rattle.words.specs.Word.{topOpen}
+use Rattle.words.specs.Table.{Table, at, with0, with1}
+use Rattle.words.proofs.Guessing.{pick}
 use Rattle.rules.specs.Tight.{Rule, Tight}
 use Rattle.rules.specs.Proper.{Proper}
 use Rattle.rules.proofs.Propers.{proper-inside, proper-narrower, bitsBelow, open-bits}
@@ -37,7 +40,7 @@ fits-engine w rs = record {
 
 -- the search of a problem, computed from the definitions
 unfoldable pub solved : List ℕ → List Rule → ℕ → Table → Outcome
-unfolding run tightened
+unfolding run tightened pick topOpen leadingZeros with0 with1
 solved w rs limit t = run (tightened w rs) limit (suc (bitsBelow (length w) w)) t 0
 
 pub solved-right : (w : List ℕ) (rs : List Rule) (t : Table) → Proper w t → (limit : ℕ) → Search (Tight w rs) limit t 0 (solved w rs limit t)

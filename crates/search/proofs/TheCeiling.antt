@@ -6,8 +6,10 @@ use mathlib.Core.List.{List}
 use Prim.Native.Nat.{ℕ, suc, _-_, _^_, _≤_}
 use native.Mathlib.Nat.{le-antisymm, le-trans}
 use native.Mathlib.Omega.{arith}
+use lib.Count.{ones}
 use lib.Pow.{pow-pos, pow-mono}
 use Rattle.words.specs.Table.{Table}
+use Rattle.words.specs.Word.{openIn}
 use Rattle.words.specs.Count.{openBelow}
 use Rattle.words.proofs.Counting.{fewer-words}
 use Rattle.rules.specs.Tight.{Rule, Tight}
@@ -29,7 +31,8 @@ one-ceiling {u = u} {c} {d} x y =
     omega (arith, x .number, y .number)
 
 module _ (w : List ℕ) (rs : List Rule) (t : Table) (proper : Proper w t) where
-  pub some-ceiling : (u : Table) → (c : ℕ) × Ceiling rs t u c
+  unfoldable pub some-ceiling : (u : Table) → (c : ℕ) × Ceiling rs t u c
+  unfolding least-inputs openBelow openIn ones
   some-ceiling u =
       let (m, h, l) = least-inputs rs t (proper-inside proper) in
       (2 ^ openBelow m u - 1, record { words = m; inputs = h; least = l; number = omega (arith, pow-pos (openBelow m u)) })

@@ -1,0 +1,28 @@
+-- Every row of the table of boards follows from the definitions.
+-- Assumes nothing.
+use mathlib.Core.Path.{_≡_, refl, subst}
+use Rattle.rules.specs.Kinds.{kindOf}
+use Rattle.rules.proofs.Lists.{All}
+use Rattle.rules.proofs.Steps.{tightened}
+use Rattle.search.proofs.Solved.{solved}
+use Rattle.search.proofs.TheCeiling.{some-ceiling}
+use Rattle.reasons.proofs.Explained.{explained}
+use Rattle.causes.proofs.Named.{named}
+use Rattle.boards.specs.Row.{Follows}
+use Rattle.boards.specs.Boards.{boards}
+use Rattle.boards.proofs.Sound.{namesb}
+use Rattle.boards.proofs.Computed.{Sound, computed, computedAll, all-follow}
+
+boards-sound : All Sound boards
+unfolding kindOf namesb
+boards-sound =
+    (tt, (tt, (tt, (tt, (tt, (tt, (tt, (tt, (tt, (tt, (tt, (tt, (tt,
+    ((tt, refl, tt, tt), ((tt, refl, tt, tt), ((tt, (refl, refl), tt, tt), tt))))))))))))))))
+
+-- the answers computed are those of the table
+boards-computed : computedAll boards boards-sound ≡ boards
+unfolding computed solved tightened some-ceiling explained named kindOf
+boards-computed = refl
+
+pub boards-follow : All Follows boards
+boards-follow = subst (All Follows) boards-computed (all-follow boards boards-sound)

@@ -1,0 +1,39 @@
+-- A row of the table of boards, and what it says.
+-- Assumes nothing: these are definitions.
+use mathlib.Core.List.{List}
+use Prim.Native.Nat.{ℕ}
+use Rattle.words.specs.Table.{Table}
+use Rattle.rules.specs.Kinds.{Place}
+use Rattle.rules.specs.Tight.{Rule, rule, shape, span, Tight}
+use Rattle.rules.specs.Tightening.{Widest}
+use Rattle.search.specs.Search.{Outcome, Search}
+use Rattle.search.specs.Ceiling.{Ceiling}
+use Rattle.reasons.specs.Says.{Answer}
+use Rattle.reasons.specs.Reason.{Explains}
+use Rattle.causes.specs.Cause.{Cause, Causes}
+
+pub record Problem : Type 0 where
+  pub widths : List ℕ
+  pub lo : List ℕ
+  pub hi : List ℕ
+  pub rules : List Rule
+
+abbrev pub table : Problem → Table
+table p = record { lo = p .lo; hi = p .hi }
+
+pub data Row : Type 0 where
+  -- solved with a limit: the answer with its count and settings
+  solve : Problem → ℕ → Outcome → Row
+  -- the ceiling
+  ceiling : Problem → ℕ → Row
+  -- a rule by its number, a place and a bit explained: the answer and its reason
+  explain : Problem → ℕ → Place → ℕ → Answer → List ℕ → Row
+  -- the cause asked with a limit
+  cause : Problem → ℕ → Cause → Row
+
+-- what a row says, in the words of the definitions
+abbrev pub Follows : Row → Type 0
+Follows (solve p limit o) = Search (Tight (p .widths) (p .rules)) limit (table p) 0 o
+Follows (ceiling p c) = (u : Table) → Widest (Tight (p .widths) (p .rules)) (table p) u → Ceiling (p .rules) (table p) u c
+Follows (explain p n q j x out) = Explains (shape (p .widths) (rule (p .rules) n)) (span (table p) (rule (p .rules) n)) q j x out
+Follows (cause p limit x) = Causes (p .widths) (p .rules) limit (table p) x
