@@ -15,6 +15,7 @@ use Rattle.rules.proofs.Lists.{any-none}
 use Rattle.rules.proofs.Listing.{fits, fits-sound, fits-complete}
 use Rattle.rules.proofs.ListedHull.{meet, join, fits-hull}
 use Rattle.reasons.specs.Says.{Answer, CONFLICT, FORCED, FREE, Says, says-conflict, says-forced, says-free}
+use Rattle.reasons.proofs.One.{one-answer}
 
 -- by the bit in what all fits have, and in what any has
 abbrev pub byBits : ℕ → ℕ → Answer
@@ -49,6 +50,10 @@ answer-right {σ} {t} p j legal u = go (fits σ t) refl
     go : (fs : List (Place → ℕ)) → fits σ t ≡ fs → Says σ t p j (byFits p j fs)
     go [] e = says-conflict (λ f h. any-none (rw e at (fits-complete σ t widths f h)))
     go (f ∷ l) e = by f l ((rw e at (fits-sound σ t)) .0) (fits-hull σ t widths f l e p u) _ _ refl refl
+
+-- and no other answer is allowed
+pub answer-only : {σ : Shape} {t : Span} {x : Answer} (p : Place) (j : ℕ) → Legal σ t → Uses σ p → Says σ t p j x → x ≡ answerOf σ t p j
+answer-only p j legal u s = one-answer s (answer-right p j legal u)
 
 -- ---- whether two answers are the same
 

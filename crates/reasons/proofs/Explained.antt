@@ -11,12 +11,12 @@ use Rattle.rules.specs.Kinds.{Place}
 use Rattle.rules.specs.Meaning.{Shape}
 use Rattle.rules.specs.Fits.{Span, Uses, Legal}
 use Rattle.reasons.specs.Says.{Answer, CONFLICT, FORCED, FREE, Says}
-use Rattle.reasons.specs.Reason.{Spot, spot, entry, cleared, filled, placed, opened, Reason, all-seen, dropped, kept, fixedFrom, fixedAt, fixedOf}
+use Rattle.reasons.specs.Reason.{Spot, spot, entry, cleared, filled, placed, opened, Reason, all-seen, dropped, kept, fixedBit, fixedFrom, fixedAt, fixedOf}
 use Rattle.reasons.specs.Reason.{Explains, no-reason, with-reason}
-use Rattle.reasons.proofs.One.{one-answer, one-explanation}
+use Rattle.reasons.proofs.One.{one-explanation}
 use Rattle.reasons.proofs.Opened.{opened-legal}
 use Rattle.reasons.proofs.Rising.{Rising, no-more, next, fixed-rising}
-use Rattle.reasons.proofs.Answered.{answerOf, answer-right, sameb, same-sound, same-refl}
+use Rattle.reasons.proofs.Answered.{answerOf, answer-right, answer-only, sameb, same-sound, same-refl}
 
 -- one of two lists, of which the other is not computed
 abbrev pub branch : Bool → (Unit {0} → List ℕ) → (Unit {0} → List ℕ) → List ℕ
@@ -42,7 +42,7 @@ module _ (σ : Shape) (p : Place) (j : ℕ) (x : Answer) where
       says = answer-right p j wide u
 
       other : sameb (answerOf σ (opened t q b) p j) x ≡ false → ¬ Says σ (opened t q b) p j x
-      other e s = subst T e (rw (one-answer says s) (same-refl x))
+      other e s = subst T e (rw (← answer-only p j wide u s) (same-refl x))
 
       go : (y : Bool) → sameb (answerOf σ (opened t q b) p j) x ≡ y → ((s : Span) → Legal σ s → Reason σ p j x s ns (reasonOf ns s))
           → Reason σ p j x t (spot q b ∷ ns) (branch y (λ z. reasonOf ns (opened t q b)) (λ z. entry q b ∷ reasonOf ns t))
@@ -58,7 +58,7 @@ reasonFor σ t p j (FORCED b) = reasonOf σ p j (FORCED b) (fixedOf σ t) t
 reasonFor σ t p j FREE = []
 
 unfoldable pub explained : Shape → Span → Place → ℕ → Answer × List ℕ
-unfolding answerOf reasonOf fixedOf fixedAt fixedFrom
+unfolding answerOf reasonOf fixedOf fixedAt fixedFrom fixedBit
 explained σ t p j = (answerOf σ t p j, reasonFor σ t p j (answerOf σ t p j))
 
 module _ {σ : Shape} {t : Span} {p : Place} (legal : Legal σ t) (u : Uses σ p) (j : ℕ) where

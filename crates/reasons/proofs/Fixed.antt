@@ -16,34 +16,43 @@ use Rattle.rules.specs.Rows.{uses}
 use Rattle.rules.specs.Meaning.{Shape}
 use Rattle.rules.specs.Fits.{Span}
 use Rattle.reasons.specs.Says.{Answer}
-use Rattle.reasons.specs.Reason.{Spot, spot, entry, Reason, all-seen, dropped, kept, Fixed, fixedFrom, fixedAt, fixedOf, Explains, no-reason, with-reason}
+use Rattle.reasons.specs.Reason.{Spot, spot, entry, Reason, all-seen, dropped, kept, Fixed, fixedBit, fixedFrom, fixedAt, fixedOf, Explains, no-reason, with-reason}
 use Rattle.reasons.specs.Alone.{listed}
 
 module _ (t : Span) (p : Place) where
+  -- a bit that is the same in both bounds, and the test for it
+  fixed-bit : (b : ℕ) → bit (t .lo p) b ≡ bit (t .hi p) b → fixedBit t p b ≡ true
+  unfolding fixedBit
+  fixed-bit b e = eq-eqb _ _ e
+
+  bit-fixed : (b : ℕ) → fixedBit t p b ≡ true → bit (t .lo p) b ≡ bit (t .hi p) b
+  unfolding fixedBit
+  bit-fixed b e = eqb-true _ _ e
+
   from-all : (n b k : ℕ) → b ≤ k → k < b + n → bit (t .lo p) k ≡ bit (t .hi p) k → List·Memᴰ (spot p k) (fixedFrom t p b n)
   unfolding fixedFrom
   from-all zero b k l h e = absurd (omega arith)
   from-all (suc n) b k l h e = go (ℕ-discrete k b) (λ d. from-all n (suc b) k (omega arith) (omega arith) e)
     where
       go : Dec (k ≡ b) → (¬ (k ≡ b) → List·Memᴰ (spot p k) (fixedFrom t p (suc b) n))
-          → List·Memᴰ (spot p k) (cond (eqb (bit (t .lo p) b) (bit (t .hi p) b)) (spot p b ∷ []) [] ++ fixedFrom t p (suc b) n)
-      go (yes d) ih = rw (← d, eq-eqb _ _ e) (List·Memᴰ·head refl)
-      go (no d) ih = Memᴰ·append-right (cond (eqb (bit (t .lo p) b) (bit (t .hi p) b)) (spot p b ∷ []) []) (ih d)
+          → List·Memᴰ (spot p k) (cond (fixedBit t p b) (spot p b ∷ []) [] ++ fixedFrom t p (suc b) n)
+      go (yes d) ih = rw (← d, fixed-bit k e) (List·Memᴰ·head refl)
+      go (no d) ih = Memᴰ·append-right (cond (fixedBit t p b) (spot p b ∷ []) []) (ih d)
 
   from-only : (n b : ℕ) {q : Place} {k : ℕ} → List·Memᴰ (spot q k) (fixedFrom t p b n)
       → (q ≡ p) × (b ≤ k) × (k < b + n) × (bit (t .lo p) k ≡ bit (t .hi p) k)
   unfolding fixedFrom
   from-only zero b m = absurd (List·Memᴰ·not-nil m)
-  from-only (suc n) b {q} {k} m = go (eqb (bit (t .lo p) b) (bit (t .hi p) b)) refl (List·Memᴰ·append-cases _ m) (λ m′. from-only n (suc b) m′)
+  from-only (suc n) b {q} {k} m = go (fixedBit t p b) refl (List·Memᴰ·append-cases _ m) (λ m′. from-only n (suc b) m′)
     where
-      go : (c : Bool) → eqb (bit (t .lo p) b) (bit (t .hi p) b) ≡ c
+      go : (c : Bool) → fixedBit t p b ≡ c
           → List·Memᴰ (spot q k) (cond c (spot p b ∷ []) []) ⊎ List·Memᴰ (spot q k) (fixedFrom t p (suc b) n)
           → (List·Memᴰ (spot q k) (fixedFrom t p (suc b) n) → (q ≡ p) × (suc b ≤ k) × (k < suc b + n) × (bit (t .lo p) k ≡ bit (t .hi p) k))
           → (q ≡ p) × (b ≤ k) × (k < b + suc n) × (bit (t .lo p) k ≡ bit (t .hi p) k)
       go true e (inl m) ih =
           let s : spot q k ≡ spot p b = List·Memᴰ·eq-of-singleton m in
           let d : k ≡ b = cc in
-          (cc, omega arith, omega arith, rw d (eqb-true _ _ e))
+          (cc, omega arith, omega arith, rw d (bit-fixed b e))
       go true e (inr m) ih = let (a, l, h, z) = ih m in (a, omega arith, omega arith, z)
       go false e (inl m) ih = absurd (List·Memᴰ·not-nil m)
       go false e (inr m) ih = let (a, l, h, z) = ih m in (a, omega arith, omega arith, z)

@@ -1,7 +1,8 @@
 -- What a reason is: its bits alone give the same answer, and with any one of them treated as open too the answer does not stay.
 -- Fits only become more as bits are treated as open, so an answer that has changed does not come back.
 -- Assumes nothing.
-use mathlib.Core.Path.{_≡_, refl}
+use mathlib.Core.Path.{_≡_, refl, sym, ap, _∙_}
+use mathlib.Core.Logic.{_⊎_, inl, inr}
 use mathlib.Core.Bool.{Bool, true, false, cond, _||_}
 use mathlib.Core.List.{List, [], _∷_}
 use Prim.Native.Nat.{ℕ, _≤_, _<_}
@@ -11,14 +12,24 @@ use borrow.Author.Tests.{eqb-true, eq-eqb, ne-eqb}
 use Rattle.rules.specs.Kinds.{Place}
 use Rattle.rules.specs.Meaning.{Shape}
 use Rattle.rules.specs.Fits.{Span, Uses, Legal}
-use Rattle.reasons.specs.Says.{Answer, FREE, Says, says-conflict, says-forced, says-free}
+use Rattle.reasons.specs.Says.{Answer, FORCED, FREE, Says, says-conflict, says-forced, says-free}
 use Rattle.reasons.specs.Reason.{Spot, spot, entry, opened, Reason, all-seen, dropped, kept, fixedOf, Explains, no-reason, with-reason}
 use Rattle.reasons.specs.Alone.{listed, alone}
 use Rattle.reasons.proofs.Opened.{Within, within-refl, within-trans, within-fit, opened-mono, opened-wider, place-one}
 use Rattle.reasons.proofs.Rising.{Rising, no-more, next, fixed-rising}
 
+-- ---- answers under wider bounds
+
+-- a FREE answer stays
 pub free-wider : {σ : Shape} {s t : Span} {p : Place} {j : ℕ} → Within s t → Says σ s p j FREE → Says σ t p j FREE
 free-wider h (says-free fit git d) = says-free (within-fit h fit) (within-fit h git) d
+
+-- a FORCED answer can only become FREE
+pub forced-wider : {σ : Shape} {s t : Span} {p : Place} {j b : ℕ} {y : Answer} → Within s t → Says σ s p j (FORCED b) → Says σ t p j y
+    → (y ≡ FORCED b) ⊎ (y ≡ FREE)
+forced-wider h (says-forced {f = f} b fit a) (says-conflict n) = absurd (n f (within-fit h fit))
+forced-wider h (says-forced {f = f} b fit a) (says-forced c git d) = inl (ap FORCED (sym (d f (within-fit h fit)) ∙ a f fit))
+forced-wider h (says-forced b fit a) (says-free git kit d) = inr refl
 
 -- an answer that holds for narrow bounds and for wide ones holds for those between
 pub says-between : {σ : Shape} {s t u : Span} {p : Place} {j : ℕ} {x : Answer} → Within s t → Within t u → Says σ s p j x → Says σ u p j x → Says σ t p j x

@@ -93,12 +93,14 @@ placed-all P {x} {y} {f} {g} p here rest q = go (eqb (placeNo p) (placeNo q)) re
     go true e = rw (← place-one p q (eqb-true _ _ e)) here
     go false e = rest q
 
+pub placed-other : (p q : Place) (x : ℕ) (f : Place → ℕ) → p ≢ q → placed p x f q ≡ f q
+unfolding placed
+placed-other p q x f d = rw (ne-eqb (placeNo p) (placeNo q) (λ e. d (place-one p q e)))
+
 -- the other places keep their bounds
 pub opened-elsewhere : (t : Span) (p q : Place) (b : ℕ) → p ≢ q → (opened t p b .lo q ≡ t .lo q) × (opened t p b .hi q ≡ t .hi q)
-unfolding opened placed
-opened-elsewhere t p q b d =
-    let e : eqb (placeNo p) (placeNo q) ≡ false = ne-eqb _ _ (λ n. d (place-one p q n)) in
-    rw e (refl, refl)
+unfolding opened
+opened-elsewhere t p q b d = (placed-other p q _ (t .lo) d, placed-other p q _ (t .hi) d)
 
 -- ---- wider bounds
 

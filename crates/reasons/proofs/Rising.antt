@@ -6,14 +6,13 @@ use mathlib.Core.List.{List, [], _∷_, _++_, append-nil}
 use Prim.Native.Nat.{ℕ, zero, suc, _+_, _*_, _≤_, _<_}
 use native.Mathlib.Nat.{le-refl, le-trans}
 use native.Mathlib.Omega.{arith}
-use lib.Dec.{T, eqb}
+use lib.Dec.{T}
 use lib.ListN.{length, length-append}
-use Rattle.words.specs.Bits.{bit}
 use Rattle.rules.specs.Kinds.{Place, R, A, B, S, Kind, op, rel, COPY, NOT, AND, OR, XOR, ADD, ITE, SLICE, JOIN, SHL, SHR}
 use Rattle.rules.specs.Rows.{uses, Fitting}
 use Rattle.rules.specs.Meaning.{Shape}
 use Rattle.rules.specs.Fits.{Span, Uses, Legal}
-use Rattle.reasons.specs.Reason.{placeNo, Spot, spot, entry, fixedFrom, fixedAt, fixedOf}
+use Rattle.reasons.specs.Reason.{placeNo, Spot, spot, entry, fixedBit, fixedFrom, fixedAt, fixedOf}
 
 -- bits of used places, below the widths there, with rising entries from n on
 pub data Rising (σ : Shape) : ℕ → List Spot → Type 0 where
@@ -30,7 +29,7 @@ module _ {σ : Shape} (t : Span) (p : Place) (u : Uses σ p) where
   from-rising zero b l r = rising-from (omega arith) r
   from-rising {rest} (suc n) b l r =
       let e : suc b + n ≡ b + suc n = omega arith in
-      go (eqb (bit (t .lo p) b) (bit (t .hi p) b)) (from-rising n (suc b) (omega arith) (rw e r))
+      go (fixedBit t p b) (from-rising n (suc b) (omega arith) (rw e r))
     where
       go : (c : Bool) → Rising σ (entry p (suc b)) (fixedFrom t p (suc b) n ++ rest)
           → Rising σ (entry p b) (cond c (spot p b ∷ []) [] ++ fixedFrom t p (suc b) n ++ rest)
@@ -57,7 +56,7 @@ fixed-rising h = at-rising R h (at-rising A h (at-rising B h (rw append-nil at (
 from-length : (t : Span) (p : Place) (n b : ℕ) → length (fixedFrom t p b n) ≤ n
 unfolding fixedFrom
 from-length t p zero b = omega arith
-from-length t p (suc n) b = go (eqb (bit (t .lo p) b) (bit (t .hi p) b)) (from-length t p n (suc b))
+from-length t p (suc n) b = go (fixedBit t p b) (from-length t p n (suc b))
   where
     go : (c : Bool) → length (fixedFrom t p (suc b) n) ≤ n → length (cond c (spot p b ∷ []) [] ++ fixedFrom t p (suc b) n) ≤ suc n
     go true l = omega arith

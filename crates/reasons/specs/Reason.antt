@@ -2,7 +2,7 @@
 -- A dropped bit is treated as open at its place only, so all this is over a rule's own places; a table comes in by `shape w ρ` and `span t ρ`.
 -- Assumes nothing: these are definitions.
 use mathlib.Core.Path.{_≡_}
-use mathlib.Core.Bool.{cond}
+use mathlib.Core.Bool.{Bool, cond}
 use mathlib.Core.Logic.{_≢_}
 use mathlib.Core.List.{List, [], _∷_, _++_}
 use Prim.Native.Nat.{ℕ, zero, suc, _+_, _-_, _*_, _^_, _<_}
@@ -58,10 +58,14 @@ pub record Fixed (σ : Shape) (t : Span) (p : Place) (b : ℕ) : Type 0 where
   pub below : b < σ .width p
   pub same : bit (t .lo p) b ≡ bit (t .hi p) b
 
+-- the same two bits as a test
+unfoldable pub fixedBit : Span → Place → ℕ → Bool
+fixedBit t p b = eqb (bit (t .lo p) b) (bit (t .hi p) b)
+
 -- the fixed bits of place p among n bits from bit b upwards
 unfoldable pub fixedFrom : Span → Place → ℕ → ℕ → List Spot
 fixedFrom t p b zero = []
-fixedFrom t p b (suc n) = cond (eqb (bit (t .lo p) b) (bit (t .hi p) b)) (spot p b ∷ []) [] ++ fixedFrom t p (suc b) n
+fixedFrom t p b (suc n) = cond (fixedBit t p b) (spot p b ∷ []) [] ++ fixedFrom t p (suc b) n
 
 -- the fixed bits of place p, where the rule uses it
 unfoldable pub fixedAt : Shape → Span → Place → List Spot
