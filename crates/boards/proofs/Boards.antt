@@ -15,9 +15,46 @@ use Rattle.boards.proofs.Computed.{Sound, computed, computedAll, all-fo
 
 boards-sound : All Sound boards
 unfolding kindOf namesb
-boards-sound =
-    (tt, (tt, (tt, (tt, (tt, (tt, (tt, (tt, (tt, (tt, (tt, (tt, (tt,
-    ((tt, refl, tt, tt), ((tt, refl, tt, tt), ((tt, (refl, refl), tt, tt), tt))))))))))))))))
+boards-sound = (
+  tt,
+  (
+    tt,
+    (
+      tt,
+      (
+        tt,
+        (
+          tt,
+          (
+            tt,
+            (
+              tt,
+              (
+                tt,
+                (
+                  tt,
+                  (
+                    tt,
+                    (
+                      tt,
+                      (
+                        tt,
+                        (
+                          tt,
+                          ((tt, refl, tt, tt), ((tt, refl, tt, tt), ((tt, (refl, refl), tt, tt), tt))),
+                        ),
+                      ),
+                    ),
+                  ),
+                ),
+              ),
+            ),
+          ),
+        ),
+      ),
+    ),
+  ),
+)
 
 -- the answers computed are those of the table
 boards-computed : computedAll boards boards-sound ≡ boards

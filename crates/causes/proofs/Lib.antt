@@ -1,3 +1,4 @@
 pub mod One
 pub mod Without
+pub mod Sum
 pub mod Named

@@ -12,10 +12,10 @@ use Rattle.search.proofs.Unique.{one-outcome}
 use Rattle.causes.specs.Cause.{Cause, CAUSE, GAVE-UP, Tried, Trims, decided, spared, needed, unknown, Causes, exists, gives-up, trimmed}
 
 module _ {w : List ℕ} {limit : ℕ} {t : Table} where
-  same : {xs : List Rule} {o o′ : Outcome} → Tried w limit t xs o → Tried w limit t xs o′ → o ≡ o′
+  pub same : {xs : List Rule} {o o′ : Outcome} → Tried w limit t xs o → Tried w limit t xs o′ → o ≡ o′
   same {xs} s s′ = one-outcome (Tight w xs) limit s s′
 
-  none-count : {xs : List Rule} {c d : ℕ} → Tried w limit t xs (none c) → Tried w limit t xs (none d) → c ≡ d
+  pub none-count : {xs : List Rule} {c d : ℕ} → Tried w limit t xs (none c) → Tried w limit t xs (none d) → c ≡ d
   none-count s s′ = let e = same s s′ in cc
 
   found-count : {xs : List Rule} {u v : List ℕ} {c d : ℕ} → Tried w limit t xs (found u c) → Tried w limit t xs (found v d) → c ≡ d
