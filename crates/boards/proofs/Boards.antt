@@ -1,6 +1,7 @@
 -- Every row of the table of boards follows from the definitions.
 -- Assumes nothing.
 use mathlib.Core.Path.{_≡_, refl, subst}
+use lib.Dec.{T}
 use Rattle.rules.specs.Kinds.{kindOf}
 use Rattle.rules.proofs.Lists.{All}
 use Rattle.rules.proofs.Steps.{tightened}
@@ -10,51 +11,12 @@ use Rattle.reasons.proofs.Explained.{explained}
 use Rattle.causes.proofs.Named.{named}
 use Rattle.boards.specs.Row.{Follows}
 use Rattle.boards.specs.Boards.{boards}
-use Rattle.boards.proofs.Sound.{namesb}
-use Rattle.boards.proofs.Computed.{Sound, computed, computedAll, all-follow}
+use Rattle.boards.proofs.Sound.{legalb}
+use Rattle.boards.proofs.Computed.{allSound, computed, computedAll, all-follow}
 
-boards-sound : All Sound boards
-unfolding kindOf namesb
-boards-sound = (
-  tt,
-  (
-    tt,
-    (
-      tt,
-      (
-        tt,
-        (
-          tt,
-          (
-            tt,
-            (
-              tt,
-              (
-                tt,
-                (
-                  tt,
-                  (
-                    tt,
-                    (
-                      tt,
-                      (
-                        tt,
-                        (
-                          tt,
-                          ((tt, refl, tt, tt), ((tt, refl, tt, tt), ((tt, (refl, refl), tt, tt), tt))),
-                        ),
-                      ),
-                    ),
-                  ),
-                ),
-              ),
-            ),
-          ),
-        ),
-      ),
-    ),
-  ),
-)
+boards-sound : T (allSound boards)
+unfolding legalb kindOf
+boards-sound = tt
 
 -- the answers computed are those of the table
 boards-computed : computedAll boards boards-sound ≡ boards

@@ -1,17 +1,17 @@
 -- The answer of a row, computed from the definitions; a row with its computed answer follows from them.
 -- Assumes nothing.
+use mathlib.Core.Bool.{Bool, true, _&&_}
 use mathlib.Core.List.{List, [], _∷_}
-use Prim.Native.Nat.{ℕ, _-_, _^_}
+use Prim.Native.Nat.{ℕ}
 use lib.Dec.{T}
-use lib.ListN.{length}
-use Rattle.words.specs.Table.{Table, at}
-use Rattle.words.specs.Count.{openBelow}
+use Rattle.words.specs.Table.{Table}
 use Rattle.rules.specs.Kinds.{kindOf}
-use Rattle.rules.specs.Rows.{uses, Fitting}
-use Rattle.rules.specs.Tight.{rule, shape, span, word, Tight}
+use Rattle.rules.specs.Rows.{uses}
+use Rattle.rules.specs.Tight.{rule, shape, span, Tight}
 use Rattle.rules.specs.Proper.{Proper}
 use Rattle.rules.specs.Tightening.{Widest, Tightened, TIGHT, CONFLICT, Tightens}
 use Rattle.rules.proofs.Lists.{All}
+use Rattle.rules.proofs.FitTest.{both}
 use Rattle.rules.proofs.OneWidest.{one-widest, not-both}
 use Rattle.rules.proofs.Steps.{tightened}
 use Rattle.rules.proofs.Widest.{tightened-right}
@@ -21,29 +21,25 @@ use Rattle.search.proofs.TheCeiling.{some-ceiling}
 use Rattle.reasons.proofs.Explained.{explained, explained-right}
 use Rattle.causes.proofs.Named.{named, named-right}
 use Rattle.boards.specs.Row.{Problem, table, Row, solve, ceiling, explain, cause, Follows}
-use Rattle.boards.proofs.Sound.{properb, proper-sound, namesb, legal-sound}
+use Rattle.boards.proofs.Sound.{properb, proper-sound, legalb, legal-sound}
 
 -- the row's problem is proper, and its question about a legal rule
-abbrev pub Proper? : Problem → Type 0
-Proper? p = T (properb (p .widths) (p .lo) (p .hi))
+abbrev pub soundb : Row → Bool
+soundb (solve p limit o) = properb (p .widths) (p .lo) (p .hi)
+soundb (ceiling p c) = properb (p .widths) (p .lo) (p .hi)
+soundb (explain p n q j x out) =
+    properb (p .widths) (p .lo) (p .hi) && (legalb (p .widths) (rule (p .rules) n) && uses (kindOf (rule (p .rules) n .kind)) q)
+soundb (cause p limit x) = properb (p .widths) (p .lo) (p .hi)
 
-abbrev pub Sound : Row → Type 0
-Sound (solve p limit o) = Proper? p
-Sound (ceiling p c) = Proper? p
-Sound (explain p n q j x out) =
-    Proper? p × Fitting (kindOf (rule (p .rules) n .kind)) (λ r. at (p .widths) (word (rule (p .rules) n) r)) (rule (p .rules) n .k)
-    × T (namesb (length (p .widths)) (rule (p .rules) n)) × T (uses (kindOf (rule (p .rules) n .kind)) q)
-Sound (cause p limit x) = Proper? p
-
-pub proper : (p : Problem) → Proper? p → Proper (p .widths) (table p)
+pub proper : (p : Problem) → T (properb (p .widths) (p .lo) (p .hi)) → Proper (p .widths) (table p)
 proper p t = proper-sound (p .widths) (p .lo) (p .hi) t
 
 -- the ceiling where tightening ends in u; there is none to ask for in a conflict
-abbrev pub ceilingIn : (p : Problem) → Proper? p → Tightened → ℕ
+abbrev pub ceilingIn : (p : Problem) → T (properb (p .widths) (p .lo) (p .hi)) → Tightened → ℕ
 ceilingIn p t (TIGHT u) = some-ceiling (p .widths) (p .rules) (table p) (proper p t) u .0
 ceilingIn p t CONFLICT = 0
 
-unfoldable pub computed : (r : Row) → Sound r → Row
+unfoldable pub computed : (r : Row) → T (soundb r) → Row
 computed (solve p limit o) t = solve p limit (solved (p .widths) (p .rules) limit (table p))
 computed (ceiling p c) t = ceiling p (ceilingIn p t (tightened (p .widths) (p .rules) (table p)))
 computed (explain p n q j x out) t =
@@ -51,7 +47,7 @@ computed (explain p n q j x out) t =
     explain p n q j (e .0) (e .1)
 computed (cause p limit x) t = cause p limit (named (λ rs. solved (p .widths) rs limit (table p)) (p .rules) limit)
 
-row-follows : (r : Row) (s : Sound r) → Follows (computed r s)
+row-follows : (r : Row) (s : T (soundb r)) → Follows (computed r s)
 unfolding computed
 row-follows (solve p limit o) t = solved-right (p .widths) (p .rules) (table p) (proper p t) limit
 row-follows (ceiling p c) t = go (tightened (p .widths) (p .rules) (table p)) (tightened-right (p .widths) (p .rules) (table p) (proper p t))
@@ -61,16 +57,23 @@ row-follows (ceiling p c) t = go (tightened (p .widths) (p .rules) (table p)) (t
     go (TIGHT u) w v y =
         rw (one-widest (Tight (p .widths) (p .rules)) (table p) v u y w) (some-ceiling (p .widths) (p .rules) (table p) (proper p t) u .1)
     go CONFLICT c v y = absurd (not-both (Tight (p .widths) (p .rules)) y c)
-row-follows (explain p n q j x out) s = explained-right (legal-sound (rule (p .rules) n) (proper p (s .0)) (s .1) (s .2)) (s .3) j
+row-follows (explain p n q j x out) s =
+    let (a, t) = both (properb (p .widths) (p .lo) (p .hi)) _ s in
+    let (b, c) = both (legalb (p .widths) (rule (p .rules) n)) _ t in
+    explained-right (legal-sound (rule (p .rules) n) (proper p a) b) c j
 row-follows (cause p limit x) t =
     named-right (λ rs. solved (p .widths) rs limit (table p)) (p .rules) limit (p .widths) (table p)
     (λ rs. solved-right (p .widths) rs (table p) (proper p t) limit)
 
 -- all rows of a table
-abbrev pub computedAll : (rs : List Row) → All Sound rs → List Row
-computedAll [] s = []
-computedAll (r ∷ rs) s = computed r (s .0) ∷ computedAll rs (s .1)
+abbrev pub allSound : List Row → Bool
+allSound [] = true
+allSound (r ∷ rs) = soundb r && allSound rs
 
-pub all-follow : (rs : List Row) (s : All Sound rs) → All Follows (computedAll rs s)
+abbrev pub computedAll : (rs : List Row) → T (allSound rs) → List Row
+computedAll [] s = []
+computedAll (r ∷ rs) s = computed r (both (soundb r) _ s .0) ∷ computedAll rs (both (soundb r) _ s .1)
+
+pub all-follow : (rs : List Row) (s : T (allSound rs)) → All Follows (computedAll rs s)
 all-follow [] s = tt
-all-follow (r ∷ rs) s = (row-follows r (s .0), all-follow rs (s .1))
+all-follow (r ∷ rs) s = (row-follows r (both (soundb r) _ s .0), all-follow rs (both (soundb r) _ s .1))
