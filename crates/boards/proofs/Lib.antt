@@ -1,3 +1,4 @@
 pub mod Sound
 pub mod Computed
 pub mod Boards
+pub mod Rises

@@ -1,7 +1,7 @@
 -- What an outcome says of the settings: what is found is the first of them, and where none is said there are none.
 -- Assumes nothing.
 use mathlib.Core.Path.{_≡_}
-use mathlib.Core.Logic.{_⊎_, inl, inr}
+use mathlib.Core.Logic.{_⊎_, inl, inr, _↔_}
 use mathlib.Core.List.{List}
 use Prim.Native.Nat.{ℕ}
 use Rattle.words.specs.Table.{Table, Inside, Keeps, Guess, Done, Earlier, point, with0, with1}
@@ -30,6 +30,13 @@ module _ (Tight : Table → Type 0) (Holds : List ℕ → Type 0) (agree : Agree
   -- a conflict means no settings
   pub conflict-without : {t : Table} → Conflict Tight t → Without Holds t
   conflict-without c v s = c .nothing (point v) (agree .tight-of v (s .holds)) (keeps-inside (s .keeps))
+
+  -- a table without open bits is tight just where its values are settings
+  pub done-settings : {t : Table} → Inside t t → Done t → Tight t ↔ Settings Holds t (t .lo)
+  done-settings {t} ok d = (
+    λ h. record { keeps = keeps-lo ok; holds = agree .holds-of (t .lo) (rw (done-point ok d) at h) },
+    λ s. rw (done-point ok d) (agree .tight-of (t .lo) (s .holds)),
+  )
 
   done-first : {t u : Table} → Widest Tight t u → Done u → First Holds t (u .lo)
   done-first {t} {u} w d = record {

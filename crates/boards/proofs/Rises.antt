@@ -1,0 +1,31 @@
+-- A rule added may raise the count, though never the ceiling: one open word of width 2 takes 2 guesses, and with "it is not itself" 3.
+-- Assumes nothing.
+use mathlib.Core.Path.{_≡_, refl, subst}
+use mathlib.Core.List.{List, [], _∷_}
+use Rattle.rules.proofs.Lists.{All}
+use Rattle.rules.proofs.OwnPlaces.{ne-self}
+use Rattle.search.specs.Search.{found, none}
+use Rattle.search.proofs.Solved.{solved}
+use Rattle.search.proofs.TheCeiling.{some-ceiling}
+use Rattle.rules.proofs.Steps.{tightened}
+use Rattle.rules.specs.Tight.{Rule}
+use Rattle.boards.specs.Row.{Problem, Row, solve, ceiling, Follows}
+use Rattle.boards.proofs.Computed.{computed, computedAll, all-follow}
+
+abbrev word : List Rule → Problem
+word rs = record { widths = 2 ∷ []; lo = 0 ∷ []; hi = 3 ∷ []; rules = rs }
+
+abbrev pub rises : List Row
+rises =
+    solve (word []) 1000000 (found (0 ∷ []) 2)
+    ∷ ceiling (word []) 3
+    ∷ solve (word (ne-self 0 ∷ [])) 1000000 (none 3)
+    ∷ ceiling (word (ne-self 0 ∷ [])) 3
+    ∷ []
+
+rises-computed : computedAll rises tt ≡ rises
+unfolding computed solved tightened some-ceiling
+rises-computed = refl
+
+pub count-rises : All Follows rises
+count-rises = subst (All Follows) rises-computed (all-follow rises tt)
