@@ -1,4 +1,5 @@
 pub mod One
 pub mod Without
+pub mod Irreducible
 pub mod Sum
 pub mod Named
