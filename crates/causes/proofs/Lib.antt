@@ -3,3 +3,4 @@ pub mod Without
 pub mod Irreducible
 pub mod Sum
 pub mod Named
+pub mod Trials
