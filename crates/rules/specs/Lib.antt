@@ -5,5 +5,6 @@ pub mod SmtLib
 pub mod Fits
 pub mod Tight
 pub mod Proper
+pub mod ProperProblem
 pub mod Tightening
 pub mod Inputs

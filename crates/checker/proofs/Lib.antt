@@ -1,0 +1,4 @@
+pub mod Firsts
+pub mod Entries
+pub mod RowNumbers
+pub mod Answers
