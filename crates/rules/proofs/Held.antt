@@ -37,6 +37,21 @@ module _ {P : Table → Type 0} where
   pub held-conflict : {t u : Table} → Held P t u → Conflict P u → Conflict P t
   held-conflict h c = record { nothing = λ s q p. c .nothing s q (h .all s q p) }
 
+-- the bounds of word i narrowed to what every table with P keeps to
+pub held-narrowed : {P : Table → Type 0} {t : Table} (i l h : ℕ) → Inside t t → at (t .lo) i ⊑ l → l ⊑ h → h ⊑ at (t .hi) i
+    → ((s : Table) → P s → Inside s t → l ⊑ at (s .lo) i) → ((s : Table) → P s → Inside s t → at (s .hi) i ⊑ h) → Held P t (narrowed t i l h)
+unfolding narrowed
+held-narrowed {P} {t} i l h ok a b c from to = record { inside = narrowed-inside i l h ok a b c; all = keep }
+  where
+    keep : (s : Table) → P s → Inside s t → Inside s (narrowed t i l h)
+    keep s q x = record {
+      los = x .los ∙ sym (length-set (t .lo) i l);
+      his = x .his ∙ sym (length-set (t .lo) i l);
+      low = set-all (λ k y. y ⊑ at (s .lo) k) (t .lo) i l (from s q x) (x .low);
+      mid = x .mid;
+      top = set-all (λ k y. at (s .hi) k ⊑ y) (t .hi) i h (to s q x) (x .top);
+    }
+
 -- for a rule for which every table with P is tight
 module _ {P : Table → Type 0} {w : List ℕ} {ρ : Rule} (told : (s : Table) → P s → TightAt w s ρ) where
   -- a rule without a fit is a conflict
@@ -48,17 +63,8 @@ module _ {P : Table → Type 0} {w : List ℕ} {ρ : Rule} (told : (s : Table) �
       → at (t .lo) (word ρ p) ⊑ l → l ⊑ h → h ⊑ at (t .hi) (word ρ p)
       → ((f : Place → ℕ) → Fit (shape w ρ) (span t ρ) f → l ⊑ f p) → ((f : Place → ℕ) → Fit (shape w ρ) (span t ρ) f → f p ⊑ h)
       → Held P t (narrowed t (word ρ p) l h)
-  unfolding narrowed
-  narrow {t} p l h u ok a b c from to = record { inside = narrowed-inside (word ρ p) l h ok a b c; all = keep }
-    where
-      keep : (s : Table) → P s → Inside s t → Inside s (narrowed t (word ρ p) l h)
-      keep s q x = record {
-        los = x .los ∙ sym (length-set (t .lo) (word ρ p) l);
-        his = x .his ∙ sym (length-set (t .lo) (word ρ p) l);
-        low = set-all (λ k y. y ⊑ at (s .lo) k) (t .lo) (word ρ p) l (tight-from (told s q) (self x) p u l x from) (x .low);
-        mid = x .mid;
-        top = set-all (λ k y. at (s .hi) k ⊑ y) (t .hi) (word ρ p) h (tight-to (told s q) (self x) p u h x to) (x .top);
-      }
+  narrow {t} p l h u ok a b c from to =
+      held-narrowed (word ρ p) l h ok a b c (λ s q x. tight-from (told s q) (self x) p u l x from) (λ s q x. tight-to (told s q) (self x) p u h x to)
 
   -- so a word may be narrowed to the hull of a place where it stands, where the rule has a fit
   pub narrow-hull : {t : Table} {p : Place} {l h : ℕ} {f : Place → ℕ} → Uses (shape w ρ) p → Inside t t

@@ -1,0 +1,4 @@
+pub mod Memory
+pub mod Stepping
+pub mod Meeting
+pub mod Applying
