@@ -6,7 +6,8 @@ use Rattle.rules.specs.ProperProblem.{kinds, KindNumber}
 use Rattle.checker.specs.Lent.{ruleAt}
 use Rattle.checker.specs.Tests.{oneTo, isKind}
 use borrow.Author.Tests.{not-true, not-false}
-use Rattle.checker.proofs.Answers.{one-to, refused-kind, refused-field, refused-fit, ok-rule}
+use Rattle.checker.proofs.TestsMet.{kind-met}
+use Rattle.checker.proofs.Answers.{refused-kind, refused-field, refused-fit, ok-rule}
 use borrow.Author.Needs.{needs}
 use Rattle.checker.proofs.rule_refusal.Statement.{statement}
 use Rattle.checker.proofs.rule_refusal.Tie as tie
@@ -16,9 +17,7 @@ kind-number : (c : tie.Else1) → isKind (c .before .before .wide .result) ≡ t
 kind-number c = sym (c .before .one-to .ensures) ∙ not-false _ (c .if1 .left)
 
 kind-told : (c : tie.Else1) → KindNumber (c .before .before .wide .result)
-kind-told c =
-    let (l, h) = one-to kinds (c .before .before .wide .result) (subst T (sym (kind-number c)) tt) in
-    record { low = l; high = h }
+kind-told c = kind-met (c .before .before .wide .result) (subst T (sym (kind-number c)) tt)
 
 mul-wide : tie.Need-mul-wide
 mul-wide c = search needs

@@ -2,7 +2,8 @@
 use mathlib.Core.Path.{_≡_, sym, _∙_, subst}
 use lib.Dec.{T}
 use borrow.Author.Tests.{not-true, not-false}
-use Rattle.checker.proofs.Answers.{one-to, refused-width, refused-table, ok-word}
+use Rattle.checker.proofs.TestsMet.{width-met}
+use Rattle.checker.proofs.Answers.{refused-width, refused-table, ok-word}
 use borrow.Author.Needs.{needs}
 use Rattle.checker.proofs.word_refusal.Statement.{statement}
 use Rattle.checker.proofs.word_refusal.Tie as tie
@@ -43,8 +44,7 @@ shared-slice-read-is-bounded-2 c = search needs
 is-bounded-requires : tie.Need-is-bounded-requires
 is-bounded-requires c κs =
     let e = c .before .before in
-    let (l, h) = one-to 64 _ (subst T (sym (sym (e .before .one-to .ensures) ∙ not-false _ (e .if1 .left))) tt) in
-    record { low = l; high = h }
+    width-met _ (subst T (sym (sym (e .before .one-to .ensures) ∙ not-false _ (e .if1 .left))) tt)
 
 returns-2 : tie.Need-returns-2
 returns-2 c =
