@@ -2,19 +2,18 @@
 -- Assumes nothing.
 use mathlib.Core.Path.{_≡_, sym, subst, fun-ext}
 use mathlib.Core.List.{List}
-use Prim.Native.Nat.{ℕ, _%_, _≤_, _<_}
+use Prim.Native.Nat.{ℕ, _%_, _<_}
 use native.Mathlib.Decide.{decLt}
 use native.Mathlib.Omega.{arith}
 use lib.ListN.{length}
-use Rattle.words.specs.Word.{Width, Bounded}
+use Rattle.words.specs.Word.{Bounded}
 use Rattle.words.specs.Table.{at}
 use Rattle.words.proofs.Order.{⊑-refl}
 use Rattle.rules.specs.Kinds.{Place, kindOf}
 use Rattle.rules.specs.Rows.{Fitting}
-use Rattle.rules.specs.Tight.{Rule, word, rule}
-use Rattle.rules.specs.Proper.{Proper}
+use Rattle.rules.specs.Tight.{Rule, word}
 use Rattle.rules.specs.ProperProblem.{KindNumber, Fields, ProperRule}
-use Rattle.checker.specs.Lent.{stride, wordCount, widthAt, loAt, hiAt, ruleCount, ruleAt, widthsOf, tableOf, rulesOf}
+use Rattle.checker.specs.Lent.{stride, wordCount, widthAt, loAt, hiAt, ruleCount, ruleAt, widthsOf, tableOf}
 use Rattle.checker.specs.Demands.{Demand, SIZE, WIDTH, TABLE, KIND, FIELD, FIT, LIMIT, Met}
 use Rattle.checker.specs.Promise.{Fine}
 use Rattle.checker.proofs.Series.{length-series, width-at, lo-at, hi-at, past-last, rule-at}

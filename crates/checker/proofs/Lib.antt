@@ -8,3 +8,4 @@ pub mod FineMet
 pub mod Orders
 pub mod Earlier
 pub mod Right
+pub mod Faults

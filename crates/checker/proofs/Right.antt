@@ -1,9 +1,9 @@
 -- The promise of the check: OK is a proper problem, a refusal is the first demand that is not met, and no other answer is right.
 -- Assumes nothing.
-use mathlib.Core.Path.{_≡_, refl, sym, subst, _∙_}
+use mathlib.Core.Path.{_≡_, refl, sym, subst}
 use mathlib.Core.Bool.{Bool, true, false}
 use mathlib.Core.List.{List}
-use Prim.Native.Nat.{ℕ, _≤_, _<_}
+use Prim.Native.Nat.{ℕ, _<_}
 use native.Mathlib.Omega.{arith}
 use lib.Dec.{T, leb, leb→le, le→leb}
 use Rattle.words.specs.Word.{bounded}
@@ -122,3 +122,19 @@ module _ (limit : ℕ) (ws bs : List ℕ) where
   -- so an answer is right just where it is the check's
   pub right-check : (x : Checked) → Right limit ws bs x → x ≡ refusalWith limit ws bs
   right-check x h = right-once h check-right
+
+-- the answer OK, for the calls that go on from it
+pub ok-fine : (limit : ℕ) (ws bs : List ℕ) → refusalWith limit ws bs ≡ Ok → Fine limit ws bs
+ok-fine limit ws bs e = go (subst (Right limit ws bs) e (check-right limit ws bs))
+  where
+    go : Right limit ws bs Ok → Fine limit ws bs
+    go (ok f) = f
+
+-- a call that takes no limit refuses as one whose limit is 0
+pub no-limit : (ws bs : List ℕ) → refusal ws bs ≡ refusalWith 0 ws bs
+unfolding refusalWith
+no-limit ws bs = go (refusal ws bs)
+  where
+    go : (x : Checked) → x ≡ x then Ok
+    go Ok = refl
+    go (Refused n p) = refl

@@ -1,13 +1,13 @@
 -- Lent numbers as lists of widths, bounds and rules: what stands at each index.
 -- Assumes nothing.
 use mathlib.Core.Path.{_≡_, refl, sym, _∙_}
-use mathlib.Core.List.{List, [], _∷_}
-use Prim.Native.Nat.{ℕ, zero, suc, _+_, _*_, _/_, _%_, _≤_, _<_}
+use mathlib.Core.List.{List}
+use Prim.Native.Nat.{ℕ, zero, suc, _+_, _*_, _%_, _≤_, _<_}
 use native.Mathlib.Decide.{decLt}
 use native.Mathlib.Omega.{arith}
 use lib.ListN.{length, getD, List·getD-eq-default}
 use Rattle.words.specs.Table.{at}
-use Rattle.rules.specs.Tight.{Rule, rule, none-rule}
+use Rattle.rules.specs.Tight.{rule, none-rule}
 use Rattle.checker.specs.Lent.{stride, wordCount, widthAt, loAt, hiAt, ruleCount, ruleAt, series, widthsOf, tableOf, rulesOf}
 
 module _ {A : Type 0} where

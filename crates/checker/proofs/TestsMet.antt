@@ -1,18 +1,18 @@
 -- Each test says its demand: a word or rule passes just where it meets what is asked of it.
 -- Assumes nothing.
-use mathlib.Core.Path.{_≡_, refl}
-use mathlib.Core.Bool.{Bool, true, false, _&&_, _||_}
+use mathlib.Core.Path.{_≡_}
+use mathlib.Core.Bool.{Bool, true, false, _||_}
 use mathlib.Core.List.{List}
 use Prim.Native.Nat.{ℕ, _%_, _≤_, _<_}
-use lib.Dec.{T, eqb, leb, ltb, eqb→eq, eqb-refl, leb→le, le→leb, ltb→lt, lt→ltb}
+use lib.Dec.{T, eqb, leb, eqb→eq, eqb-refl, leb→le, le→leb, ltb→lt, lt→ltb}
 use lib.ListN.{length}
 use Rattle.words.specs.Word.{Width}
 use Rattle.rules.specs.Kinds.{Place, R, A, B, S, kindOf}
 use Rattle.rules.specs.Rows.{Class, equal-r-a, equal-r-a-b, chosen, part, joined, shifted, equal-a-b, class, uses, FitsAs, Fitting}
 use Rattle.rules.specs.Tight.{Rule, word}
-use Rattle.rules.specs.ProperProblem.{usesK, kinds, KindNumber, Fields}
+use Rattle.rules.specs.ProperProblem.{usesK, kinds, KindNumber, Fields, most-words}
 use Rattle.rules.proofs.FitTest.{both, pair}
-use Rattle.checker.specs.Lent.{stride, fields, wordCount, widthAt, ruleCount}
+use Rattle.checker.specs.Lent.{stride, fields, wordCount, widthAt}
 use Rattle.checker.specs.Demands.{Sized}
 use Rattle.checker.specs.Tests.{sized, oneTo, isWidth, isKind, isField, areFields, fitsAs, isFitting}
 
@@ -27,7 +27,7 @@ module _ (ws bs : List ℕ) where
   sized-met t =
       let (a, t₁) = both (eqb (length ws % stride) 0) _ t in
       let (b, t₂) = both (eqb (length bs % fields) 0) _ t₁ in
-      let (c, d) = both (leb (wordCount ws) 32) _ t₂ in
+      let (c, d) = both (leb (wordCount ws) most-words) _ t₂ in
       record { whole-words = eqb→eq _ _ a; whole-rules = eqb→eq _ _ b; words = leb→le _ _ c; rules = leb→le _ _ d }
 
   pub met-sized : Sized ws bs → T (sized ws bs)
@@ -35,7 +35,7 @@ module _ (ws bs : List ℕ) where
   met-sized h =
       pair (eqb (length ws % stride) 0) _ (eq-test _ _ (h .whole-words))
       (pair (eqb (length bs % fields) 0) _ (eq-test _ _ (h .whole-rules))
-      (pair (leb (wordCount ws) 32) _ (le→leb _ _ (h .words)) (le→leb _ _ (h .rules))))
+      (pair (leb (wordCount ws) most-words) _ (le→leb _ _ (h .words)) (le→leb _ _ (h .rules))))
 
 -- ---- widths and kinds
 
