@@ -1,25 +1,16 @@
 -- The refusal of a word, of a rule and of a problem, by what their tests gave.
 -- Assumes nothing.
-use mathlib.Core.Path.{_≡_, refl}
-use mathlib.Core.Bool.{Bool, true, false}
+use mathlib.Core.Path.{_≡_}
+use mathlib.Core.Bool.{true, false}
 use mathlib.Core.List.{List}
 use Prim.Native.Nat.{ℕ, _≤_, _<_}
-use native.Mathlib.Omega.{arith}
-use lib.Dec.{T, leb, leb→le, le→leb}
 use borrow.Author.Tests.{le-leb, lt-leb}
 use Rattle.words.specs.Word.{bounded}
-use Rattle.rules.proofs.FitTest.{both, pair}
 use Rattle.checker.specs.declared.Checked.the-variants.{Ok, Refused}
 use Rattle.checker.specs.Lent.{wordCount, widthAt, loAt, hiAt, ruleCount, ruleAt}
 use Rattle.checker.specs.Demands.{most-guesses}
-use Rattle.checker.specs.Tests.{sized, oneTo, isWidth, isKind, areFields, isFitting}
+use Rattle.checker.specs.Tests.{sized, isWidth, isKind, areFields, isFitting}
 use Rattle.checker.specs.Refusal.{firstOf, wordRefusal, ruleRefusal, refusal, refusalWith}
-
-pub one-to : (m x : ℕ) → T (oneTo m x) → (1 ≤ x) × (x ≤ m)
-one-to m x t = let (l, h) = both (leb 1 x) (leb x m) t in (leb→le 1 x l, leb→le x m h)
-
-pub to-one : (m x : ℕ) → 1 ≤ x → x ≤ m → T (oneTo m x)
-to-one m x l h = pair (leb 1 x) (leb x m) (le→leb 1 x l) (le→leb x m h)
 
 module _ (ws : List ℕ) (i : ℕ) where
   pub refused-width : isWidth (widthAt ws i) ≡ false → Refused 4 i ≡ wordRefusal ws i

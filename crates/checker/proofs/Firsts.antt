@@ -10,7 +10,7 @@ use native.Mathlib.Omega.{arith}
 use lib.Dec.{T}
 use Rattle.checker.specs.declared.Checked.{Checked}
 use Rattle.checker.specs.declared.Checked.the-variants.{Ok, Refused}
-use Rattle.checker.specs.Demands.{Demand, number, place}
+use Rattle.checker.specs.Demands.{Demand}
 use Rattle.checker.specs.Refusal.{asks, _then_, firstOf}
 
 pub refused-ok : {n p : ℕ} → Refused n p ≡ Ok → ⊥

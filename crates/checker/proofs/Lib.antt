@@ -1,4 +1,11 @@
 pub mod Firsts
 pub mod Entries
 pub mod RowNumbers
+pub mod TestsMet
 pub mod Answers
+pub mod Series
+pub mod FineMet
+pub mod Orders
+pub mod Earlier
+pub mod Right
+pub mod Faults

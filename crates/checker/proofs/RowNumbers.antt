@@ -9,7 +9,7 @@ use native.Mathlib.Omega.{arith}
 use lib.Dec.{eqb, leb}
 use borrow.Author.Tests.{leb-true, leb-false, eqb-true, eqb-false, le-leb, lt-leb, eq-eqb, ne-eqb}
 use Rattle.words.specs.Bits.{one}
-use Rattle.rules.specs.Kinds.{Place, R, A, B, S, Kind, kindOf}
+use Rattle.rules.specs.Kinds.{R, A, B, S, Kind, kindOf}
 use Rattle.rules.specs.Rows.{Class, equal-r-a, equal-r-a-b, chosen, part, joined, shifted, equal-a-b, class}
 use Rattle.rules.specs.Tight.{Rule, word}
 use Rattle.checker.specs.declared.Widths.{Widths}

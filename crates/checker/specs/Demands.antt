@@ -9,7 +9,7 @@ use Rattle.words.specs.Word.{Width, Bounded}
 use Rattle.rules.specs.Kinds.{kindOf}
 use Rattle.rules.specs.Rows.{Fitting}
 use Rattle.rules.specs.Tight.{word}
-use Rattle.rules.specs.ProperProblem.{KindNumber, Fields}
+use Rattle.rules.specs.ProperProblem.{KindNumber, Fields, most-words, most-rules}
 use Rattle.checker.specs.Lent.{stride, fields, wordCount, widthAt, loAt, hiAt, ruleCount, ruleAt}
 
 pub data Demand : Type 0 where
@@ -58,8 +58,8 @@ pub data Before (d e : Demand) : Type 0 where
 pub record Sized (ws bs : List ℕ) : Type 0 where
   pub whole-words : length ws % stride ≡ 0
   pub whole-rules : length bs % fields ≡ 0
-  pub words : wordCount ws ≤ 32
-  pub rules : ruleCount bs ≤ 252
+  pub words : wordCount ws ≤ most-words
+  pub rules : ruleCount bs ≤ most-rules
 
 abbrev pub most-guesses : ℕ
 most-guesses = 1000000

@@ -1,6 +1,6 @@
 -- The constant table of fourteen rows as numbers: the class by which the widths must fit, then whether r, a, b, s and k are used.
 -- Assumes nothing: these are definitions.
-use mathlib.Core.Bool.{Bool, true, false}
+use mathlib.Core.Bool.{Bool, true}
 use mathlib.Core.List.{[], _∷_}
 use Prim.Native.Nat.{ℕ, zero, suc}
 use lib.ListN.{getD}

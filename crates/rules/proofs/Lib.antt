@@ -8,6 +8,7 @@ pub mod Tight
 pub mod OneWidest
 pub mod Agree
 pub mod Propers
+pub mod ProperRules
 pub mod Lists
 pub mod Choices
 pub mod FitTest

@@ -7,7 +7,7 @@ use Prim.Native.Nat.{ℕ, _≤_, _<_}
 use lib.Dec.{T}
 use lib.ListN.{length}
 use Rattle.words.specs.Table.{Table, at}
-use Rattle.rules.specs.Kinds.{Place, Op, COPY, NOT, AND, OR, XOR, ADD, ITE, SLICE, JOIN, SHL, SHR, Kind, op, rel, kindOf}
+use Rattle.rules.specs.Kinds.{Place, COPY, NOT, AND, OR, XOR, ADD, ITE, SLICE, JOIN, SHL, SHR, Kind, op, rel, kindOf}
 use Rattle.rules.specs.Rows.{uses, Fitting}
 use Rattle.rules.specs.Tight.{Rule, word, rule}
 use Rattle.rules.specs.Proper.{Proper}
@@ -48,8 +48,14 @@ pub record ProperRule (w : List ℕ) (ρ : Rule) : Type 0 where
   pub fields : Fields (length w) ρ
   pub fit : Fitting (kindOf (ρ .kind)) (λ p. at w (word ρ p)) (ρ .k)
 
+abbrev pub most-words : ℕ
+most-words = 32
+
+abbrev pub most-rules : ℕ
+most-rules = 252
+
 pub record ProperProblem (w : List ℕ) (t : Table) (rs : List Rule) : Type 0 where
-  pub words : length w ≤ 32
-  pub rules : length rs ≤ 252
+  pub words : length w ≤ most-words
+  pub rules : length rs ≤ most-rules
   pub table : Proper w t
   pub each : (n : ℕ) → n < length rs → ProperRule w (rule rs n)

@@ -1,10 +1,16 @@
 -- `checker::first_refusal` meets its contract. Assumes nothing.
-use mathlib.Core.Path.{sym, _∙_}
+use mathlib.Core.Path.{_≡_, sym, _∙_}
+use mathlib.Core.Bool.{true}
 use borrow.Author.Needs.{needs}
 use borrow.Author.Tests.{not-true, not-false}
+use Rattle.checker.specs.Tests.{sized}
 use Rattle.checker.proofs.Answers.{refused-size, refused-words, ok-words}
 use Rattle.checker.proofs.first_refusal.Statement.{statement}
 use Rattle.checker.proofs.first_refusal.Tie as tie
+
+-- the sizes are right
+is-sized : (c : tie.Else1) → sized (c .before .before .before .before .args .words .now) (c .before .before .before .before .args .rules .now) ≡ true
+is-sized c = sym (c .before .is-sized .ensures) ∙ not-false _ (c .if1 .left)
 
 is-sized-requires : tie.Need-is-sized-requires
 is-sized-requires c κs = search needs
@@ -21,7 +27,7 @@ enum-known-x c = search needs
 returns-2 : tie.Need-returns-2
 returns-2 c =
     let x = c .before .before .before in
-    refused-words _ _ (sym (x .before .before .is-sized .ensures) ∙ not-false _ (x .before .if1 .left)) (sym (x .words-refusal .ensures) ∙ c .before .x .given .1)
+    refused-words _ _ (is-sized (x .before)) (sym (x .words-refusal .ensures) ∙ c .before .x .given .1)
 
 enum-told : tie.Need-enum-told
 enum-told c = search needs
@@ -33,7 +39,7 @@ returns-3 : tie.Need-returns-3
 returns-3 c =
     let x = c .before .before .before in
     c .rules-refusal .ensures
-    ∙ ok-words _ _ (sym (x .before .before .is-sized .ensures) ∙ not-false _ (x .before .if1 .left)) (sym (x .words-refusal .ensures) ∙ c .before .enum-told .given .1)
+    ∙ ok-words _ _ (is-sized (x .before)) (sym (x .words-refusal .ensures) ∙ c .before .enum-told .given .1)
 
 pub first-refusal-spec : {M : Type 1} → statement M
 first-refusal-spec =

@@ -1,0 +1,13 @@
+-- `checker::rows::is_sum` meets its contract. Assumes nothing.
+use Rattle.checker.proofs.RowNumbers.{sum-test, no-sum}
+use Rattle.checker.proofs.rows.is_sum.Statement.{statement}
+use Rattle.checker.proofs.rows.is_sum.Tie as tie
+
+returns : tie.Need-returns
+returns c = no-sum _ _ _ (c .if1 .taken)
+
+returns-2 : tie.Need-returns-2
+returns-2 c = sum-test _ _ _ (c .if1 .left)
+
+pub is-sum-spec : {M : Type 1} → statement M
+is-sum-spec = tie.close (tie.spec returns returns-2)

@@ -1,0 +1,15 @@
+-- `checker::rows::used` meets its contract. Assumes nothing.
+use borrow.Author.Needs.{needs}
+use Rattle.rules.specs.Kinds.{kindOf}
+use Rattle.checker.proofs.RowNumbers.{entry-used}
+use Rattle.checker.proofs.rows.used.Statement.{statement}
+use Rattle.checker.proofs.rows.used.Tie as tie
+
+row-requires : tie.Need-row-requires
+row-requires c κs = search needs
+
+returns : tie.Need-returns
+returns c = rw (c .row .ensures) (entry-used (kindOf (c .before .args .kind)) (c .before .args .column) (c .before .pre .1))
+
+pub used-spec : {M : Type 1} → statement M
+used-spec = tie.close (tie.spec row-requires returns)
