@@ -2,3 +2,4 @@ pub mod Memory
 pub mod Stepping
 pub mod Meeting
 pub mod Applying
+pub mod Ready

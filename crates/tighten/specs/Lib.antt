@@ -1,3 +1,4 @@
 pub mod Memory
 pub mod Meeting
 pub mod Stepping
+pub mod Ready

@@ -4,7 +4,8 @@ ghost use mathlib.Core.Path.{_≡_};
 ghost use mathlib.Core.Bool.{true, false};
 ghost use Prim.Native.Nat.{_+_, _*_, _<_, _≤_};
 ghost use lib.ListN.{length};
-ghost use Rattle.checker.specs.Lent.{ruleAt};
+ghost use Rattle.checker.specs.Lent.{ruleCount};
+ghost use Rattle.tighten.specs.Ready.{Ready, Applied};
 ghost use Rattle.tighten.specs.Meeting.{metBy, metAll, numbersAt, boundsAt, widthsAt};
 
 // What meeting bounds has come to: whether there may still be a fit, and whether a bound changed.
@@ -116,4 +117,20 @@ fn meet_all(work: &mut [u64], m: Met, x: Numbers, t: hull::Bounds) -> Met
     let a = meet(work, r, x.a, t.al, t.ah);
     let b = meet(work, a, x.b, t.bl, t.bh);
     meet(work, b, x.s, t.sl, t.sh)
+}
+
+// Rule j applied: the bounds of its words are met with what its narrowing leaves.
+fn apply(work: &mut [u64], words: &[u64], rules: &[u8], j: usize) -> Met
+    requires { ⌜ Ready (now words) (now rules) (now work) × (j < ruleCount (now rules)) ⌝ }
+    ensures { λ r. ⌜ Applied (now (words .entry)) (now (rules .entry)) j (now (work .entry)) (now (work .exit)) r ⌝ }
+{
+    let x = numbers_at(rules, j);
+    let w = widths_at(words, x);
+    let t = bounds_at(work, x);
+    let o = hull::narrow(x.kind, x.k, w, t);
+    let m = Met {
+        fit: o.fit,
+        changed: false,
+    };
+    meet_all(work, m, x, o.t)
 }
