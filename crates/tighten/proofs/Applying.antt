@@ -29,6 +29,7 @@ use Rattle.tighten.specs.declared.Numbers.{Numbers}
 use Rattle.tighten.specs.Memory.{tableIn, Outside}
 use Rattle.tighten.specs.Meeting.{State, metBy, metAll}
 use Rattle.tighten.specs.Stepping.{Stepped}
+use Rattle.tighten.proofs.Stepping.{true-false}
 use Rattle.tighten.proofs.Memory.{low-at, high-at, outside-refl}
 use Rattle.tighten.proofs.Meeting.{Meeting, meet-step, met-back}
 
@@ -38,9 +39,6 @@ pub record Narrows (w : List ℕ) (t : Table) (ρ : Rule) (o : Narrowed) : Type 
   pub some : o .fit ≡ true → (f : Place → ℕ) × Fit (shape w ρ) (span t ρ) f
   pub hull : o .fit ≡ true → (p : Place) → Uses (shape w ρ) p → Hull (shape w ρ) (span t ρ) p (loOf (o .t) p) (hiOf (o .t) p)
   pub rest : (p : Place) → ¬ Uses (shape w ρ) p → (loOf (o .t) p ≡ at (t .lo) (word ρ p)) × (hiOf (o .t) p ≡ at (t .hi) (word ρ p))
-
-true-false : true ≡ false → ⊥
-true-false e = let z : _≡_ {A = ℕ} 0 1 = cc in omega arith
 
 module _ {w : List ℕ} {t : Table} {ρ : Rule} {o : Narrowed} (x : Narrows w t ρ o) where
   -- a table that is tight for the rule keeps to what is left at each place

@@ -3,3 +3,4 @@ pub mod Stepping
 pub mod Meeting
 pub mod Applying
 pub mod Ready
+pub mod Sweeping

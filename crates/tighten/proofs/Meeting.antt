@@ -24,6 +24,7 @@ use Rattle.rules.proofs.Held.{Held, held-trans, held-narrowed}
 use Rattle.tighten.specs.declared.Met.{Met}
 use Rattle.tighten.specs.Memory.{tableIn, Outside}
 use Rattle.tighten.specs.Meeting.{State, stored, metBy}
+use Rattle.tighten.proofs.Stepping.{true-false}
 use Rattle.tighten.proofs.Memory.{low-at, high-at, lows, stored-table, outside-trans, outside-stored}
 
 -- ---- "or" with the low bound, "and" with the high one
@@ -54,9 +55,6 @@ pub record Meeting (P : Table → Type 0) (n : ℕ) (t : Table) (l : List ℕ) (
   pub same : z .met .fit ≡ true → z .met .changed ≡ false → tableIn n (z .memory) ≡ t
   pub less : z .met .fit ≡ true → z .met .changed ≡ true → openBelow n (tableIn n (z .memory)) < openBelow n t
   pub outside : Outside n l (z .memory)
-
-true-false : true ≡ false → ⊥
-true-false e = let z : _≡_ {A = ℕ} 0 1 = cc in omega arith
 
 and-true : (a b : Bool) → a && b ≡ true → (a ≡ true) × (b ≡ true)
 and-true true b e = (refl, e)

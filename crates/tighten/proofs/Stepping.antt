@@ -12,7 +12,7 @@ use Rattle.rules.specs.Tightening.{Widest, Conflict}
 use Rattle.tighten.specs.declared.Met.{Met}
 use Rattle.tighten.specs.Stepping.{Stepped}
 
-true-false : true ≡ false → ⊥
+pub true-false : true ≡ false → ⊥
 true-false e = let z : _≡_ {A = ℕ} 0 1 = cc in omega arith
 
 -- nothing done

@@ -5,7 +5,7 @@ ghost use mathlib.Core.Bool.{true, false};
 ghost use Prim.Native.Nat.{_+_, _*_, _<_, _≤_};
 ghost use lib.ListN.{length};
 ghost use Rattle.checker.specs.Lent.{ruleCount};
-ghost use Rattle.tighten.specs.Ready.{Ready, Applied};
+ghost use Rattle.tighten.specs.Ready.{Ready, Applied, Listed, Swept, Settled};
 ghost use Rattle.tighten.specs.Meeting.{metBy, metAll, numbersAt, boundsAt, widthsAt};
 
 // What meeting bounds has come to: whether there may still be a fit, and whether a bound changed.
@@ -133,4 +133,42 @@ fn apply(work: &mut [u64], words: &[u64], rules: &[u8], j: usize) -> Met
         changed: false,
     };
     meet_all(work, m, x, o.t)
+}
+
+// The rules that are listed, each applied once, until one has no fit.
+fn sweep(work: &mut [u64], words: &[u64], rules: &[u8], count: usize) -> Met
+    requires { ⌜ Ready (now words) (now rules) (now work) × Listed (now rules) (now work) count ⌝ }
+    ensures { λ r. ⌜ Swept (now (words .entry)) (now (rules .entry)) count (now (work .entry)) (now (work .exit)) r ⌝ }
+{
+    let mut changed = false;
+    let mut j = 0;
+    while j < count {
+        let n = work[64 + j] as usize;
+        let x = apply(work, words, rules, n);
+        if !x.fit {
+            return Met {
+                fit: false,
+                changed: false,
+            };
+        }
+        changed = changed | x.changed;
+        j += 1;
+    }
+    Met { fit: true, changed }
+}
+
+// The rules that are listed, applied until none changes a bound: whether a tight table is left, which then stands in memory.
+pub fn settle(work: &mut [u64], words: &[u64], rules: &[u8], count: usize) -> bool
+    requires { ⌜ Ready (now words) (now rules) (now work) × Listed (now rules) (now work) count ⌝ }
+    ensures { λ r. ⌜ Settled (now (words .entry)) (now (rules .entry)) count (now (work .entry)) (now (work .exit)) r ⌝ }
+{
+    loop {
+        let m = sweep(work, words, rules, count);
+        if !m.fit {
+            return false;
+        }
+        if !m.changed {
+            return true;
+        }
+    }
 }
