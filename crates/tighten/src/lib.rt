@@ -1,12 +1,8 @@
 // Tightening: the rules are applied in turn until none changes the table.
 // The table is in lent work memory: the low bounds of the words at 0..32, their high bounds at 32..64, then the numbers of the rules.
-ghost use mathlib.Core.Path.{_≡_};
-ghost use mathlib.Core.Bool.{true, false};
-ghost use Prim.Native.Nat.{_+_, _*_, _<_, _≤_};
-ghost use lib.ListN.{length};
-ghost use Rattle.checker.specs.Lent.{ruleCount};
-ghost use Rattle.tighten.specs.Ready.{Ready, Applied, Listed, Swept, Settled};
-ghost use Rattle.tighten.specs.Meeting.{metBy, metAll, numbersAt, boundsAt, widthsAt};
+mod rule;
+
+ghost use Rattle.tighten.specs.Ready.{Ready, Listed, Swept, Settled};
 
 // What meeting bounds has come to: whether there may still be a fit, and whether a bound changed.
 pub struct Met {
@@ -24,117 +20,6 @@ pub struct Numbers {
     pub k: u64,
 }
 
-fn wide(x: u8) -> usize
-    ensures { λ r. ⌜ (r ≡ x) × (r < 256) ⌝ }
-{
-    x as usize
-}
-
-// The fields of rule n.
-fn numbers_at(rules: &[u8], n: usize) -> Numbers
-    requires { ⌜ 6 * n + 5 < length (now rules) ⌝ }
-    ensures { λ r. ⌜ r ≡ numbersAt (now (rules .entry)) n ⌝ }
-{
-    let at = 6 * n;
-    Numbers {
-        kind: wide(rules[at]),
-        r: wide(rules[at + 1]),
-        a: wide(rules[at + 2]),
-        b: wide(rules[at + 3]),
-        s: wide(rules[at + 4]),
-        k: wide(rules[at + 5]) as u64,
-    }
-}
-
-// The bounds of the words that stand at a rule's places.
-fn bounds_at(work: &[u64], x: Numbers) -> hull::Bounds
-    requires { ⌜ (x .r < 32) × (x .a < 32) × (x .b < 32) × (x .s < 32) × (64 ≤ length (now work)) ⌝ }
-    ensures { λ r. ⌜ r ≡ boundsAt (now (work .entry)) x ⌝ }
-{
-    let r = x.r;
-    let a = x.a;
-    let b = x.b;
-    let s = x.s;
-    hull::Bounds {
-        rl: work[r],
-        rh: work[r + 32],
-        al: work[a],
-        ah: work[a + 32],
-        bl: work[b],
-        bh: work[b + 32],
-        sl: work[s],
-        sh: work[s + 32],
-    }
-}
-
-// The widths of these words.
-fn widths_at(words: &[u64], x: Numbers) -> hull::Widths
-    requires { ⌜ (3 * x .r < length (now words)) × (3 * x .a < length (now words)) × (3 * x .b < length (now words)) × (3 * x .s < length (now words)) × (x .r < 32) × (x .a < 32) × (x .b < 32) × (x .s < 32) ⌝ }
-    ensures { λ r. ⌜ r ≡ widthsAt (now (words .entry)) x ⌝ }
-{
-    let r = 3 * x.r;
-    let a = 3 * x.a;
-    let b = 3 * x.b;
-    let s = 3 * x.s;
-    hull::Widths {
-        r: words[r],
-        a: words[a],
-        b: words[b],
-        s: words[s],
-    }
-}
-
-// The bounds of word i met with l and h. Where the low bound then leaves the high one there is no fit; then, as after an earlier one, nothing is stored.
-fn meet(work: &mut [u64], m: Met, i: usize, l: u64, h: u64) -> Met
-    requires { ⌜ (i < 32) × (64 ≤ length (now work)) ⌝ }
-    ensures { λ r. ⌜ record { met = r; memory = now (work .exit) } ≡ metBy (record { met = m; memory = now (work .entry) }) i l h ⌝ }
-{
-    let k = i + 32;
-    let old_lo = work[i];
-    let old_hi = work[k];
-    let lo = old_lo | l;
-    let hi = old_hi & h;
-    if m.fit & (lo & hi == lo) {
-        work[i] = lo;
-        work[k] = hi;
-        return Met {
-            fit: true,
-            changed: m.changed | ((lo != old_lo) | (hi != old_hi)),
-        };
-    }
-    Met {
-        fit: false,
-        changed: false,
-    }
-}
-
-// The bounds at all places of a rule met, each with its own.
-fn meet_all(work: &mut [u64], m: Met, x: Numbers, t: hull::Bounds) -> Met
-    requires { ⌜ (x .r < 32) × (x .a < 32) × (x .b < 32) × (x .s < 32) × (64 ≤ length (now work)) ⌝ }
-    ensures { λ r. ⌜ record { met = r; memory = now (work .exit) } ≡ metAll (record { met = m; memory = now (work .entry) }) x t ⌝ }
-{
-    let r = meet(work, m, x.r, t.rl, t.rh);
-    let a = meet(work, r, x.a, t.al, t.ah);
-    let b = meet(work, a, x.b, t.bl, t.bh);
-    meet(work, b, x.s, t.sl, t.sh)
-}
-
-// Rule j applied: the bounds of its words are met with what its narrowing leaves.
-fn apply(work: &mut [u64], words: &[u64], rules: &[u8], j: usize) -> Met
-    requires { ⌜ Ready (now words) (now rules) (now work) × (j < ruleCount (now rules)) ⌝ }
-    ensures { λ r. ⌜ Applied (now (words .entry)) (now (rules .entry)) j (now (work .entry)) (now (work .exit)) r ⌝ }
-{
-    let x = numbers_at(rules, j);
-    let w = widths_at(words, x);
-    let t = bounds_at(work, x);
-    let o = hull::narrow(x.kind, x.k, w, t);
-    let m = Met {
-        fit: o.fit,
-        changed: false,
-    };
-    meet_all(work, m, x, o.t)
-}
-
 // The rules that are listed, each applied once, until one has no fit.
 fn sweep(work: &mut [u64], words: &[u64], rules: &[u8], count: usize) -> Met
     requires { ⌜ Ready (now words) (now rules) (now work) × Listed (now rules) (now work) count ⌝ }
@@ -144,7 +29,7 @@ fn sweep(work: &mut [u64], words: &[u64], rules: &[u8], count: usize) -> Met
     let mut j = 0;
     while j < count {
         let n = work[64 + j] as usize;
-        let x = apply(work, words, rules, n);
+        let x = rule::apply(work, words, rules, n);
         if !x.fit {
             return Met {
                 fit: false,

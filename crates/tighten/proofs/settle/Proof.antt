@@ -1,3 +1,4 @@
+-- `tighten::settle` meets its contract. Assumes nothing.
 use mathlib.Core.Path.{_∙_}
 use borrow.Author.Tests.{not-true, not-false}
 use native.Mathlib.Omega.{arith}
@@ -7,9 +8,6 @@ use Rattle.tighten.specs.Memory.{tableIn}
 use Rattle.tighten.proofs.Sweeping.{Settling, settling-start, settling-ready, settling-listed, settling-none, settling-step, settling-end}
 use Rattle.tighten.proofs.settle.Statement.{statement}
 use Rattle.tighten.proofs.settle.Tie as tie
-use Rattle.tighten.proofs.settle.Reads as reads
-use Rattle.tighten.proofs.settle.Lts as lts
-use Rattle.tighten.proofs.sweep.Reads as sweep-reads
 
 abbrev Inv-loop : tie.InvT-loop
 Inv-loop work₀ words rules count work = Settling words rules work₀ work count
@@ -17,24 +15,20 @@ Inv-loop work₀ words rules count work = Settling words rules work₀ work coun
 abbrev μ-loop : tie.MeasureT-loop
 μ-loop work₀ words rules count work = openBelow (wordCount words) (tableIn (wordCount words) work)
 
--- src/lib.rt:168:5
 loop-holds : tie.Need-loop-holds Inv-loop μ-loop
 loop-holds c = let s = c .before .before .before in settling-start (s .pre .0) (s .pre .1)
 
--- src/lib.rt:169:13
 sweep-requires : tie.Need-sweep-requires Inv-loop μ-loop
 sweep-requires c κs =
     let l = c .before in
     let s = l .before .before .before .before in
     (settling-ready (s .pre .0) (s .pre .1) (l .loop .inv), settling-listed (s .pre .0) (s .pre .1) (l .loop .inv))
 
--- src/lib.rt:171:13
 same-length : tie.Need-same-length Inv-loop μ-loop
 same-length c =
     let a = c .before .before .before .before in
     a .sweep .kept .0 ∙ a .before .before .loop .inv .outside .size
 
--- src/lib.rt:171:13
 returns : tie.Need-returns Inv-loop μ-loop
 returns c =
     let a = c .before .before .before .before in
@@ -42,13 +36,11 @@ returns c =
     let s = l .before .before .before .before in
     settling-none (s .pre .0) (s .pre .1) (l .loop .inv) (a .sweep .result) (a .sweep .ensures) (not-true (a .sweep .result .fit) (c .if1 .taken))
 
--- src/lib.rt:174:13
 same-length-2 : tie.Need-same-length-2 Inv-loop μ-loop
 same-length-2 c =
     let a = c .before .before .before .before .before .before in
     a .sweep .kept .0 ∙ a .before .before .loop .inv .outside .size
 
--- src/lib.rt:174:13
 returns-2 : tie.Need-returns-2 Inv-loop μ-loop
 returns-2 c =
     let e = c .before .before in
@@ -58,14 +50,12 @@ returns-2 c =
     settling-end (s .pre .0) (s .pre .1) (l .loop .inv) (a .sweep .result) (a .sweep .ensures) (not-false (a .sweep .result .fit) (e .if1 .left))
     (not-true (a .sweep .result .changed) (c .if2 .taken))
 
--- src/lib.rt:168:5
 loop-less : tie.Need-loop-less Inv-loop μ-loop
 loop-less c =
     let e = c .before .before in
     let a = e .before .before .before .before in
     a .sweep .ensures .step .less (not-false (a .sweep .result .fit) (e .if1 .left)) (not-false (a .sweep .result .changed) (c .if2 .left))
 
--- src/lib.rt:168:5
 loop-again : tie.Need-loop-again Inv-loop μ-loop
 loop-again c =
     let e = c .before .before in

@@ -1,3 +1,4 @@
+-- `tighten::sweep` meets its contract. Assumes nothing.
 use mathlib.Core.Path.{_≡_, _∙_}
 use borrow.Author.Tests.{not-true, not-false}
 use Prim.Native.Nat.{_-_, _≤_}
@@ -5,9 +6,6 @@ use native.Mathlib.Omega.{arith}
 use Rattle.tighten.proofs.Sweeping.{Passing, passing-start, still-ready, next-listed, passing-none, passing-step, passing-end}
 use Rattle.tighten.proofs.sweep.Statement.{statement}
 use Rattle.tighten.proofs.sweep.Tie as tie
-use Rattle.tighten.proofs.sweep.Reads as reads
-use Rattle.tighten.proofs.sweep.Lts as lts
-use Rattle.tighten.proofs.apply.Reads as apply-reads
 
 abbrev Inv-loop : tie.InvT-loop
 Inv-loop work₀ words rules count changed₀ j₀ work changed j = Passing words rules work₀ work changed j × (j ≤ count)
@@ -15,23 +13,18 @@ Inv-loop work₀ words rules count changed₀ j₀ work changed j = Passing word
 abbrev μ-loop : tie.MeasureT-loop
 μ-loop work₀ words rules count changed₀ j₀ work changed j = count - j
 
--- src/lib.rt:145:5
 loop-holds : tie.Need-loop-holds Inv-loop μ-loop
 loop-holds c = let s = c .before .before .before in (passing-start (s .pre .0), omega arith)
 
--- src/lib.rt:146:22
 add-n : tie.Need-add-n Inv-loop μ-loop
 add-n c = omega (arith, c .before .before .before .before .before .pre .1 .room)
 
--- src/lib.rt:146:17
 mul-n : tie.Need-mul-n Inv-loop μ-loop
 mul-n c = omega (arith, c .before .before .before .before .before .pre .1 .room)
 
--- src/lib.rt:146:17
 slice-read-n : tie.Need-slice-read-n Inv-loop μ-loop
 slice-read-n c = omega (arith, c .before .before .before .before .before .before .pre .1 .room, c .before .before .loop .inv .0 .outside .size)
 
--- src/lib.rt:147:13
 apply-requires : tie.Need-apply-requires Inv-loop μ-loop
 apply-requires c κs =
     let l = c .before .before .before in
@@ -39,14 +32,12 @@ apply-requires c κs =
     let less = c .before .before .loop-test .taken in
     (still-ready (s .pre .0) (l .loop .inv .0) (s .pre .1) less, next-listed (s .pre .0) (l .loop .inv .0) (s .pre .1) less)
 
--- src/lib.rt:149:13
 same-length : tie.Need-same-length Inv-loop μ-loop
 same-length c =
     let a = c .before .before .before .before in
     let l = a .before .before .before .before in
     a .apply .kept .0 ∙ l .loop .inv .0 .outside .size
 
--- src/lib.rt:149:13
 returns : tie.Need-returns Inv-loop μ-loop
 returns c =
     let a = c .before .before .before .before in
@@ -55,15 +46,12 @@ returns c =
     passing-none (s .pre .0) (l .loop .inv .0) (s .pre .1) (a .before .before .before .loop-test .taken) (a .apply .result) (a .apply .ensures)
     (not-true (a .apply .result .fit) (c .if1 .taken))
 
--- src/lib.rt:155:9
 add-j : tie.Need-add-j Inv-loop μ-loop
 add-j c = omega (arith, c .before .before .before .before .before .before .before .before .loop-test .taken)
 
--- src/lib.rt:145:5
 loop-less : tie.Need-loop-less Inv-loop μ-loop
 loop-less c = omega arith
 
--- src/lib.rt:145:5
 loop-again : tie.Need-loop-again Inv-loop μ-loop
 loop-again c =
     let a = c .before .before .before .before .before in
@@ -72,11 +60,9 @@ loop-again c =
     let less = a .before .before .before .loop-test .taken in
     (passing-step (s .pre .0) (l .loop .inv .0) (s .pre .1) less (a .apply .result) (a .apply .ensures) (not-false (a .apply .result .fit) (c .before .if1 .left)), omega arith)
 
--- src/lib.rt:139:1
 same-length-2 : tie.Need-same-length-2 Inv-loop μ-loop
 same-length-2 c = c .before .loop .inv .0 .outside .size
 
--- src/lib.rt:139:1
 returns-2 : tie.Need-returns-2 Inv-loop μ-loop
 returns-2 c =
     let l = c .before in

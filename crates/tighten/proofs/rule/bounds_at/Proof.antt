@@ -1,92 +1,70 @@
+-- `tighten::rule::bounds_at` meets its contract. Assumes nothing.
 use mathlib.Core.Path.{refl}
 use Rattle.tighten.specs.Meeting.{boundsAt}
 use borrow.Author.Needs.{needs}
-use Rattle.tighten.proofs.bounds_at.Statement.{statement}
-use Rattle.tighten.proofs.bounds_at.Tie as tie
-use Rattle.tighten.proofs.bounds_at.Reads as reads
-use Rattle.tighten.proofs.bounds_at.Lts as lts
+use Rattle.tighten.proofs.rule.bounds_at.Statement.{statement}
+use Rattle.tighten.proofs.rule.bounds_at.Tie as tie
 
--- src/lib.rt:58:13
 mul-t7 : tie.Need-mul-t7
 mul-t7 c = search needs
 
--- src/lib.rt:58:13
 shared-slice-read-t9 : tie.Need-shared-slice-read-t9
 shared-slice-read-t9 c = search needs
 
--- src/lib.rt:59:18
 add-t10 : tie.Need-add-t10
 add-t10 c = search needs
 
--- src/lib.rt:59:13
 mul-t11 : tie.Need-mul-t11
 mul-t11 c = search needs
 
--- src/lib.rt:59:13
 shared-slice-read-t13 : tie.Need-shared-slice-read-t13
 shared-slice-read-t13 c = search needs
 
--- src/lib.rt:60:13
 mul-t14 : tie.Need-mul-t14
 mul-t14 c = search needs
 
--- src/lib.rt:60:13
 shared-slice-read-t16 : tie.Need-shared-slice-read-t16
 shared-slice-read-t16 c = search needs
 
--- src/lib.rt:61:18
 add-t17 : tie.Need-add-t17
 add-t17 c = search needs
 
--- src/lib.rt:61:13
 mul-t18 : tie.Need-mul-t18
 mul-t18 c = search needs
 
--- src/lib.rt:61:13
 shared-slice-read-t20 : tie.Need-shared-slice-read-t20
 shared-slice-read-t20 c = search needs
 
--- src/lib.rt:62:13
 mul-t21 : tie.Need-mul-t21
 mul-t21 c = search needs
 
--- src/lib.rt:62:13
 shared-slice-read-t23 : tie.Need-shared-slice-read-t23
 shared-slice-read-t23 c = search needs
 
--- src/lib.rt:63:18
 add-t24 : tie.Need-add-t24
 add-t24 c = search needs
 
--- src/lib.rt:63:13
 mul-t25 : tie.Need-mul-t25
 mul-t25 c = search needs
 
--- src/lib.rt:63:13
 shared-slice-read-t27 : tie.Need-shared-slice-read-t27
 shared-slice-read-t27 c = search needs
 
--- src/lib.rt:64:13
 mul-t28 : tie.Need-mul-t28
 mul-t28 c = search needs
 
--- src/lib.rt:64:13
 shared-slice-read-t30 : tie.Need-shared-slice-read-t30
 shared-slice-read-t30 c = search needs
 
--- src/lib.rt:65:18
 add-t31 : tie.Need-add-t31
 add-t31 c = search needs
 
--- src/lib.rt:65:13
 mul-t32 : tie.Need-mul-t32
 mul-t32 c = search needs
 
--- src/lib.rt:65:13
 shared-slice-read-t34 : tie.Need-shared-slice-read-t34
 shared-slice-read-t34 c = search needs
 
--- src/lib.rt:49:1
 returns : tie.Need-returns
 unfolding boundsAt
 returns c = refl

@@ -1,60 +1,46 @@
+-- `tighten::rule::widths_at` meets its contract. Assumes nothing.
 use mathlib.Core.Path.{refl}
 use Rattle.tighten.specs.Meeting.{widthsAt}
 use borrow.Author.Needs.{needs}
-use Rattle.tighten.proofs.widths_at.Statement.{statement}
-use Rattle.tighten.proofs.widths_at.Tie as tie
-use Rattle.tighten.proofs.widths_at.Reads as reads
-use Rattle.tighten.proofs.widths_at.Lts as lts
+use Rattle.tighten.proofs.rule.widths_at.Statement.{statement}
+use Rattle.tighten.proofs.rule.widths_at.Tie as tie
 
--- src/lib.rt:74:13
 mul-r : tie.Need-mul-r
 mul-r c = search needs
 
--- src/lib.rt:75:13
 mul-a : tie.Need-mul-a
 mul-a c = search needs
 
--- src/lib.rt:76:13
 mul-b : tie.Need-mul-b
 mul-b c = search needs
 
--- src/lib.rt:77:13
 mul-s : tie.Need-mul-s
 mul-s c = search needs
 
--- src/lib.rt:79:12
 mul-t7 : tie.Need-mul-t7
 mul-t7 c = search needs
 
--- src/lib.rt:79:12
 shared-slice-read-t9 : tie.Need-shared-slice-read-t9
 shared-slice-read-t9 c = search needs
 
--- src/lib.rt:80:12
 mul-t10 : tie.Need-mul-t10
 mul-t10 c = search needs
 
--- src/lib.rt:80:12
 shared-slice-read-t12 : tie.Need-shared-slice-read-t12
 shared-slice-read-t12 c = search needs
 
--- src/lib.rt:81:12
 mul-t13 : tie.Need-mul-t13
 mul-t13 c = search needs
 
--- src/lib.rt:81:12
 shared-slice-read-t15 : tie.Need-shared-slice-read-t15
 shared-slice-read-t15 c = search needs
 
--- src/lib.rt:82:12
 mul-t16 : tie.Need-mul-t16
 mul-t16 c = search needs
 
--- src/lib.rt:82:12
 shared-slice-read-t18 : tie.Need-shared-slice-read-t18
 shared-slice-read-t18 c = search needs
 
--- src/lib.rt:70:1
 returns : tie.Need-returns
 unfolding widthsAt
 returns c = refl

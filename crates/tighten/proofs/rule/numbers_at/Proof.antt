@@ -1,84 +1,63 @@
+-- `tighten::rule::numbers_at` meets its contract. Assumes nothing.
 use Rattle.tighten.specs.Meeting.{numbersAt}
 use borrow.Author.Needs.{needs}
-use Rattle.tighten.proofs.numbers_at.Statement.{statement}
-use Rattle.tighten.proofs.numbers_at.Tie as tie
-use Rattle.tighten.proofs.numbers_at.Reads as reads
-use Rattle.tighten.proofs.numbers_at.Lts as lts
-use Rattle.tighten.proofs.wide.Reads as wide-reads
+use Rattle.tighten.proofs.rule.numbers_at.Statement.{statement}
+use Rattle.tighten.proofs.rule.numbers_at.Tie as tie
 
--- src/lib.rt:37:14
 mul-at : tie.Need-mul-at
 mul-at c = search needs
 
--- src/lib.rt:39:20
 shared-slice-read-wide : tie.Need-shared-slice-read-wide
 shared-slice-read-wide c = search needs
 
--- src/lib.rt:39:15
 wide-requires : tie.Need-wide-requires
 wide-requires c κs = search needs
 
--- src/lib.rt:40:23
 add-wide : tie.Need-add-wide
 add-wide c = search needs
 
--- src/lib.rt:40:17
 shared-slice-read-wide-2 : tie.Need-shared-slice-read-wide-2
 shared-slice-read-wide-2 c = search needs
 
--- src/lib.rt:40:12
 wide-requires-2 : tie.Need-wide-requires-2
 wide-requires-2 c κs = search needs
 
--- src/lib.rt:41:23
 add-wide-2 : tie.Need-add-wide-2
 add-wide-2 c = search needs
 
--- src/lib.rt:41:17
 shared-slice-read-wide-3 : tie.Need-shared-slice-read-wide-3
 shared-slice-read-wide-3 c = search needs
 
--- src/lib.rt:41:12
 wide-requires-3 : tie.Need-wide-requires-3
 wide-requires-3 c κs = search needs
 
--- src/lib.rt:42:23
 add-wide-3 : tie.Need-add-wide-3
 add-wide-3 c = search needs
 
--- src/lib.rt:42:17
 shared-slice-read-wide-4 : tie.Need-shared-slice-read-wide-4
 shared-slice-read-wide-4 c = search needs
 
--- src/lib.rt:42:12
 wide-requires-4 : tie.Need-wide-requires-4
 wide-requires-4 c κs = search needs
 
--- src/lib.rt:43:23
 add-wide-4 : tie.Need-add-wide-4
 add-wide-4 c = search needs
 
--- src/lib.rt:43:17
 shared-slice-read-wide-5 : tie.Need-shared-slice-read-wide-5
 shared-slice-read-wide-5 c = search needs
 
--- src/lib.rt:43:12
 wide-requires-5 : tie.Need-wide-requires-5
 wide-requires-5 c κs = search needs
 
--- src/lib.rt:44:23
 add-wide-5 : tie.Need-add-wide-5
 add-wide-5 c = search needs
 
--- src/lib.rt:44:17
 shared-slice-read-wide-6 : tie.Need-shared-slice-read-wide-6
 shared-slice-read-wide-6 c = search needs
 
--- src/lib.rt:44:12
 wide-requires-6 : tie.Need-wide-requires-6
 wide-requires-6 c κs = search needs
 
--- src/lib.rt:33:1
 returns : tie.Need-returns
 unfolding numbersAt
 returns c = cc
