@@ -4,6 +4,7 @@ use mathlib.Core.Path.{_≡_, refl, sym}
 use mathlib.Core.Logic.{_≢_}
 use mathlib.Core.List.{List}
 use Prim.Native.Nat.{ℕ, _+_, _%_, _≤_, _<_}
+use native.Mathlib.Decide.{decLt}
 use native.Mathlib.Omega.{arith}
 use lib.Dec.{T}
 use lib.ListN.{length}
@@ -20,12 +21,37 @@ use Rattle.checker.specs.Refusal.{refusalWith}
 use Rattle.checker.specs.Promise.{FirstUnmet, refused}
 use Rattle.checker.proofs.Right.{right-check}
 
+inside : {P : Type 0} (i n : ℕ) → ¬ (i < n → P) → i < n
+inside {P} i n u = go (decLt i n)
+  where
+    go : Dec (i < n) → i < n
+    go (yes l) = l
+    go (no f) = absurd (u (λ l. absurd (f l)))
+
 module _ (limit : ℕ) (ws bs : List ℕ) where
   -- the first demand that is not met is refused, by its number and place
   pub first-refused : (d : Demand) → FirstUnmet limit ws bs d → refusalWith limit ws bs ≡ Refused (number d) (place d)
   first-refused d u = sym (right-check limit ws bs (Refused (number d) (place d)) (refused {n = number d} {p = place d} d refl refl u))
 
-  -- a word's or a rule's fault is of one that is there
+  -- what is refused is a word or a rule that is there
+  abbrev pub There : Demand → Type 0
+  There SIZE = Unit {0}
+  There (WIDTH i) = i < wordCount ws
+  There (TABLE i) = i < wordCount ws
+  There (KIND n) = n < ruleCount bs
+  There (FIELD n) = n < ruleCount bs
+  There (FIT n) = n < ruleCount bs
+  There LIMIT = Unit {0}
+
+  pub unmet-there : (d : Demand) → ¬ Met limit ws bs d → There d
+  unmet-there SIZE u = tt
+  unmet-there (WIDTH i) u = inside i (wordCount ws) u
+  unmet-there (TABLE i) u = inside i (wordCount ws) u
+  unmet-there (KIND n) u = inside n (ruleCount bs) u
+  unmet-there (FIELD n) u = inside n (ruleCount bs) u
+  unmet-there (FIT n) u = inside n (ruleCount bs) u
+  unmet-there LIMIT u = tt
+
   pub data Fault : Demand → Type 0 where
     many-words : most-words < wordCount ws → Fault SIZE
     many-rules : most-rules < ruleCount bs → Fault SIZE
