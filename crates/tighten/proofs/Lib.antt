@@ -4,3 +4,4 @@ pub mod Meeting
 pub mod Applying
 pub mod Ready
 pub mod Sweeping
+pub mod Buffers

@@ -3,8 +3,8 @@
 use mathlib.Core.Path.{_≡_}
 use mathlib.Core.Logic.{_⊎_}
 use mathlib.Core.List.{List}
-use Prim.Native.Nat.{ℕ, _+_, _≤_, _<_}
-use lib.ListN.{length, take, drop}
+use Prim.Native.Nat.{ℕ, zero, suc, _+_, _*_, _≤_, _<_}
+use lib.ListN.{length, take, drop, set}
 use Rattle.words.specs.Table.{Table, at}
 use Rattle.rules.specs.Tight.{Rule, rule}
 use Rattle.checker.specs.Lent.{series}
@@ -21,3 +21,25 @@ chosen rs l c = series c (λ j. rule rs (at l (64 + j)))
 pub record Outside (n : ℕ) (l m : List ℕ) : Type 0 where
   pub size : length m ≡ length l
   pub rest : (i : ℕ) → n ≤ i → (i < 32) ⊎ (32 + n ≤ i) → at m i ≡ at l i
+
+-- the bounds of the first n words of ws stand in m, which else is as l
+pub record Loaded (n : ℕ) (ws l m : List ℕ) : Type 0 where
+  pub size : length m ≡ length l
+  pub low : (i : ℕ) → i < n → at m i ≡ at ws (3 * i + 1)
+  pub high : (i : ℕ) → i < n → at m (i + 32) ≡ at ws (3 * i + 2)
+
+-- the numbers 0 to c - 1 are listed in m, which below 64 is as l
+pub record Numbered (c : ℕ) (l m : List ℕ) : Type 0 where
+  pub size : length m ≡ length l
+  pub each : (j : ℕ) → j < c → at m (64 + j) ≡ j
+  pub rest : (i : ℕ) → i < 64 → at m i ≡ at l i
+
+-- m is all 0, and as long as l
+pub record Cleared (l m : List ℕ) : Type 0 where
+  pub size : length m ≡ length l
+  pub zeros : (i : ℕ) → at m i ≡ 0
+
+-- the words ws with the bounds of the first n from memory l
+unfoldable pub putBounds : ℕ → List ℕ → List ℕ → List ℕ
+putBounds zero l ws = ws
+putBounds (suc i) l ws = set (set (putBounds i l ws) (3 * i + 1) (at l i)) (3 * i + 2) (at l (i + 32))
