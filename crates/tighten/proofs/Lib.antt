@@ -5,3 +5,5 @@ pub mod Applying
 pub mod Ready
 pub mod Sweeping
 pub mod Buffers
+pub mod Calling
+pub mod Once

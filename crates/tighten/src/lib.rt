@@ -3,6 +3,7 @@
 mod buffer;
 mod rule;
 
+ghost use Rattle.tighten.specs.Promise.{Given, Ended, Tightening};
 ghost use Rattle.tighten.specs.Ready.{Ready, Listed, Swept, Settled};
 
 // What meeting bounds has come to: whether there may still be a fit, and whether a bound changed.
@@ -57,4 +58,50 @@ pub fn settle(work: &mut [u64], words: &[u64], rules: &[u8], count: usize) -> bo
             return true;
         }
     }
+}
+
+// The answer: the bounds of the words are those of the widest tight table; there is none; or the number of the first refusal, and its place.
+pub enum Answer {
+    Tight,
+    Conflict,
+    Refused(u64, u64),
+}
+
+// The numbers of work memory that tightening needs.
+const WORK: usize = 320;
+
+// The table in memory tightened for all rules, its bounds put into words where a tight one is left, and the memory cleared.
+fn tighten_proper(words: &mut [u64], rules: &[u8], work: &mut [u64]) -> bool
+    requires { ⌜ Given (now words) (now rules) (now work) ⌝ }
+    ensures { λ r. ⌜ Ended (now (words .entry)) (now (rules .entry)) (now (work .entry)) r (now (words .exit)) (now (work .exit)) ⌝ }
+{
+    let n = words.len() / 3;
+    let c = rules.len() / 6;
+    buffer::load(work, words, n);
+    buffer::list_all(work, c);
+    if settle(work, words, rules, c) {
+        buffer::unload(words, work, n);
+        buffer::clear(work);
+        return true;
+    }
+    buffer::clear(work);
+    false
+}
+
+// Tightens a problem's table. TIGHT: the bounds in words are those of the widest tight table, the widths stay. CONFLICT: there is none, and words stay as they
+// were. Work memory of at least 320 numbers is lent, and is all 0 after both; a refusal alters nothing.
+pub fn tighten(words: &mut [u64], rules: &[u8], work: &mut [u64]) -> Answer
+    ensures { λ r. ⌜ Tightening (now (words .entry)) (now (rules .entry)) (now (work .entry)) r (now (words .exit)) (now (work .exit)) ⌝ }
+{
+    if work.len() < WORK {
+        return Answer::Refused(1, 0);
+    }
+    let x = checker::first_refusal(words, rules);
+    if let checker::Checked::Refused(number, place) = x {
+        return Answer::Refused(number, place);
+    }
+    if tighten_proper(words, rules, work) {
+        return Answer::Tight;
+    }
+    Answer::Conflict
 }

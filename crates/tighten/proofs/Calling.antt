@@ -1,0 +1,183 @@
+-- The call's own steps: the table loaded is the problem's, the rules listed are all of them, and the words with new bounds are the words.
+-- Assumes nothing.
+use mathlib.Core.Path.{_≡_, refl, sym, ap, _∙_}
+use mathlib.Core.Bool.{Bool, true, false}
+use mathlib.Core.List.{List}
+use Prim.Native.Nat.{ℕ, zero, suc, _+_, _*_, _/_, _≤_, _<_}
+use native.Mathlib.Omega.{arith}
+use native.Mathlib.Decide.{ℕ-discrete, decLe}
+use lib.ListN.{length, set, length-set}
+use borrow.Author.Tests.{le-leb, lt-leb}
+use lib.Seq.{ext-getD, getD-set-same, getD-set-other}
+use Rattle.words.specs.Table.{Table, at}
+use Rattle.words.proofs.Tables.{table-path}
+use Rattle.rules.specs.Tight.{rule}
+use Rattle.checker.specs.Lent.{stride, wordCount, widthAt, loAt, hiAt, widthsOf, tableOf, ruleCount, ruleAt, rulesOf, series}
+use Rattle.checker.specs.declared.Checked.the-variants.{Ok, Refused}
+use Rattle.checker.specs.Demands.{Sized}
+use Rattle.checker.specs.Refusal.{refusal}
+use Rattle.checker.proofs.Right.{ok-fine, no-limit}
+use Rattle.checker.proofs.Series.{length-series, series-at, rule-at}
+use Rattle.tighten.specs.declared.Answer.{Answer}
+use Rattle.tighten.specs.declared.Answer.the-variants as answer
+use Rattle.tighten.specs.Memory.{tableIn, chosen, Loaded, Numbered, Cleared, putBounds}
+use Rattle.tighten.specs.Ready.{Ready, Listed, Settled}
+use Rattle.tighten.specs.Promise.{workLength, refusalHere, Given, Bounds, Ended, ended-tight, ended-conflict, Tightening, refused, tight, conflict}
+use Rattle.tighten.proofs.Memory.{low-at, high-at, lows, highs}
+use Rattle.tighten.proofs.Buffers.{put-length}
+
+-- two series that agree are one
+series-same : {A : Type 0} (n : ℕ) (f g : ℕ → A) → ((i : ℕ) → i < n → f i ≡ g i) → series n f ≡ series n g
+unfolding series
+series-same zero f g h = refl
+series-same (suc n) f g h = cc (h 0 (omega arith), series-same n (λ i. f (suc i)) (λ i. g (suc i)) (λ i l. h (suc i) (omega arith)))
+
+-- a table in memory, by its bounds
+table-is : (n : ℕ) (l : List ℕ) (f g : ℕ → ℕ) → n ≤ 32 → 64 ≤ length l → ((i : ℕ) → i < n → at l i ≡ f i) → ((i : ℕ) → i < n → at l (i + 32) ≡ g i)
+    → tableIn n l ≡ record { lo = series n f; hi = series n g }
+table-is n l f g most room low high =
+    table-path
+    (ext-getD 0 (tableIn n l .lo) (series n f) (lows n l most room ∙ sym (length-series n f))
+    (λ i h. let k : i < n = rw (lows n l most room) at h in low-at n l i k ∙ low i k ∙ sym (series-at 0 n i f k)))
+    (ext-getD 0 (tableIn n l .hi) (series n g) (highs n l most room ∙ sym (length-series n g))
+    (λ i h. let k : i < n = rw (highs n l most room) at h in high-at n l i k ∙ high i k ∙ sym (series-at 0 n i g k)))
+
+-- ---- before
+
+module _ {ws bs k l m : List ℕ} (given : Given ws bs k) (x : Loaded (wordCount ws) ws k l) (y : Numbered (ruleCount bs) l m) where
+  pub loaded-table : tableIn (wordCount ws) m ≡ tableOf ws
+  loaded-table =
+      let c = given .sized .words in
+      let r = given .room in
+      table-is (wordCount ws) m (loAt ws) (hiAt ws) c (omega (arith, x .size, y .size))
+      (λ i h. y .rest i (omega arith) ∙ x .low i h) (λ i h. y .rest (i + 32) (omega arith) ∙ x .high i h)
+
+  pub all-chosen : chosen (rulesOf bs) m (ruleCount bs) ≡ rulesOf bs
+  unfolding chosen
+  all-chosen = series-same (ruleCount bs) _ (ruleAt bs) (λ j h. ap (rule (rulesOf bs)) (y .each j h) ∙ rule-at bs j h)
+
+  pub call-ready : Ready ws bs m
+  call-ready = record {
+    sized = given .sized;
+    problem = given .problem;
+    room = omega (arith, given .room, x .size, y .size);
+    table = rw loaded-table (given .problem .table);
+  }
+
+  pub call-listed : Listed bs m (ruleCount bs)
+  call-listed = record {
+    room = omega (arith, given .sized .rules, given .room, x .size, y .size);
+    each = λ j h. rw (y .each j h) h;
+  }
+
+-- ---- after
+
+-- what stands in the words once bounds are put back: the width of word i, and for i below k its bounds
+module _ (l ws : List ℕ) where
+  put-width : (k i : ℕ) → at (putBounds k l ws) (3 * i) ≡ at ws (3 * i)
+  unfolding putBounds
+  put-width zero i = refl
+  put-width (suc k) i =
+      getD-set-other (set (putBounds k l ws) (3 * k + 1) (at l k)) (3 * k + 2) (3 * i) (at l (k + 32)) 0 (omega arith)
+      ∙ getD-set-other (putBounds k l ws) (3 * k + 1) (3 * i) (at l k) 0 (omega arith) ∙ put-width k i
+
+  put-low : (k i : ℕ) → 3 * k ≤ length ws → i < k → at (putBounds k l ws) (3 * i + 1) ≡ at l i
+  unfolding putBounds
+  put-low zero i r h = absurd (omega arith)
+  put-low (suc k) i r h = go (ℕ-discrete i k) (λ h′. put-low k i (omega arith) h′)
+    where
+      first : List ℕ
+      first = set (putBounds k l ws) (3 * k + 1) (at l k)
+
+      go : Dec (i ≡ k) → (i < k → at (putBounds k l ws) (3 * i + 1) ≡ at l i) → at (set first (3 * k + 2) (at l (k + 32))) (3 * i + 1) ≡ at l i
+      go (yes e) ih =
+          getD-set-other first (3 * k + 2) (3 * i + 1) (at l (k + 32)) 0 (omega arith)
+          ∙ rw e (getD-set-same (putBounds k l ws) (3 * k + 1) (at l k) 0 (omega (arith, put-length k l ws)))
+      go (no d) ih =
+          getD-set-other first (3 * k + 2) (3 * i + 1) (at l (k + 32)) 0 (omega arith)
+          ∙ getD-set-other (putBounds k l ws) (3 * k + 1) (3 * i + 1) (at l k) 0 (omega arith) ∙ ih (omega arith)
+
+  put-high : (k i : ℕ) → 3 * k ≤ length ws → i < k → at (putBounds k l ws) (3 * i + 2) ≡ at l (i + 32)
+  unfolding putBounds
+  put-high zero i r h = absurd (omega arith)
+  put-high (suc k) i r h = go (ℕ-discrete i k) (λ h′. put-high k i (omega arith) h′)
+    where
+      first : List ℕ
+      first = set (putBounds k l ws) (3 * k + 1) (at l k)
+
+      go : Dec (i ≡ k) → (i < k → at (putBounds k l ws) (3 * i + 2) ≡ at l (i + 32)) → at (set first (3 * k + 2) (at l (k + 32))) (3 * i + 2) ≡ at l (i + 32)
+      go (yes e) ih = rw e (getD-set-same first (3 * k + 2) (at l (k + 32)) 0 (simp length-set (omega (arith, put-length k l ws))))
+      go (no d) ih =
+          getD-set-other first (3 * k + 2) (3 * i + 2) (at l (k + 32)) 0 (omega arith)
+          ∙ getD-set-other (putBounds k l ws) (3 * k + 1) (3 * i + 2) (at l k) 0 (omega arith) ∙ ih (omega arith)
+
+-- the words with the bounds of the table in memory
+pub put-bounds : (l ws : List ℕ) → wordCount ws ≤ 32 → 64 ≤ length l → Bounds ws (putBounds (wordCount ws) l ws) (tableIn (wordCount ws) l)
+put-bounds l ws most room = record {
+  size = put-length (wordCount ws) l ws;
+  widths = rw same (series-same (wordCount ws) _ (widthAt ws) (λ i h. put-width l ws (wordCount ws) i));
+  table =
+      rw same
+      (sym (table-is (wordCount ws) l (λ i. at (putBounds (wordCount ws) l ws) (3 * i + 1)) (λ i. at (putBounds (wordCount ws) l ws) (3 * i + 2)) most room
+      (λ i h. sym (put-low l ws (wordCount ws) i (omega arith) h)) (λ i h. sym (put-high l ws (wordCount ws) i (omega arith) h))));
+}
+  where
+    same : wordCount (putBounds (wordCount ws) l ws) ≡ wordCount ws
+    same = ap (λ n. n / stride) (put-length (wordCount ws) l ws)
+
+module _ {ws bs k l m n p : List ℕ} (given : Given ws bs k) (x : Loaded (wordCount ws) ws k l) (y : Numbered (ruleCount bs) l m) (z : Cleared n p) where
+  -- the memory that is cleared is as long as the one that was lent
+  kept : length n ≡ length m → Cleared k p
+  kept e = record { size = z .size ∙ e ∙ y .size ∙ x .size; zeros = z .zeros }
+
+  pub call-tight : Settled ws bs (ruleCount bs) m n true → Ended ws bs k true (putBounds (wordCount ws) n ws) p
+  call-tight s =
+      ended-tight (rw (loaded-table given x y, all-chosen given x y) at (s .answer))
+      (put-bounds n ws (given .sized .words) (omega (arith, given .room, x .size, y .size, s .outside .size))) (kept (s .outside .size))
+
+  pub call-conflict : Settled ws bs (ruleCount bs) m n false → Ended ws bs k false ws p
+  call-conflict s = ended-conflict (rw (loaded-table given x y, all-chosen given x y) at (s .answer)) (kept (s .outside .size))
+
+-- ---- the answer
+
+abbrev pub answerOf : Bool → Answer
+answerOf true = answer.Tight
+answerOf false = answer.Conflict
+
+enough : (ws bs l : List ℕ) → workLength ≤ length l → refusalHere ws bs l ≡ refusal ws bs
+unfolding refusalHere
+enough ws bs l h = rw (le-leb workLength (length l) h)
+
+pub problem-given : {ws bs l : List ℕ} → workLength ≤ length l → refusal ws bs ≡ Ok → Given ws bs l
+problem-given {ws} {bs} h e =
+    let fine = ok-fine 0 ws bs (sym (no-limit ws bs) ∙ e) in
+    record { sized = fine .sized; problem = fine .problem; room = h }
+
+module _ {ws bs l : List ℕ} where
+  pub short-refused : length l < workLength → Tightening ws bs l (answer.Refused 1 0) ws l
+  unfolding refusalHere
+  short-refused h = refused {n = 1} {p = 0} (rw (lt-leb workLength (length l) h))
+
+  pub problem-refused : {n p : ℕ} → workLength ≤ length l → refusal ws bs ≡ Refused n p → Tightening ws bs l (answer.Refused n p) ws l
+  problem-refused h e = refused (enough ws bs l h ∙ e)
+
+  pub ended-answer : {vs m : List ℕ} {r : Bool} → workLength ≤ length l → refusal ws bs ≡ Ok → Ended ws bs l r vs m → Tightening ws bs l (answerOf r) vs m
+  ended-answer h e (ended-tight x b c) = tight (enough ws bs l h ∙ e) x b c
+  ended-answer h e (ended-conflict x c) = conflict (enough ws bs l h ∙ e) x c
+
+-- a problem that is not refused has sizes that fit
+pub here-sized : (ws bs l : List ℕ) → refusalHere ws bs l ≡ Ok → Sized ws bs
+unfolding refusalHere
+here-sized ws bs l e = go (decLe workLength (length l))
+  where
+    short : length l < workLength → Ok ≡ Refused 1 0
+    short q = sym e ∙ rw (lt-leb workLength (length l) q)
+
+    differs : Ok ≡ Refused 1 0 → ⊥
+    differs d = let z : _≡_ {A = ℕ} 0 1 = cc in omega arith
+
+    go : Dec (workLength ≤ length l) → Sized ws bs
+    go (yes h) =
+        let g : Given ws bs l = problem-given h (sym (enough ws bs l h) ∙ e) in
+        g .sized
+    go (no h) = absurd (differs (short (omega arith)))
