@@ -1,179 +1,101 @@
--- COPY, SLICE and SHR: r is m bits of a from bit k on; the least and the greatest fit differ from a's bounds only in those bits.
+-- COPY, SLICE and SHR: r is m bits of a from bit k on, and the other bits of a are not looked at.
 -- Assumes nothing.
-use mathlib.Core.Path.{_≡_, sym, ap, _∙_}
-use mathlib.Core.Logic.{_↔_}
-use Prim.Native.Nat.{ℕ, _+_, _/_, _%_, _^_, _<_, _≤_}
-use native.Mathlib.Nat.{mod-lt, mod-eq-of-lt, div-one, lt-of-le-of-lt}
+use mathlib.Core.Path.{_≡_, refl, sym, _∙_}
+use Prim.Native.Nat.{ℕ, _+_, _/_, _-_, _%_, _^_, _<_, _≤_}
+use native.Mathlib.Nat.{mod-eq-of-lt, div-one, zero-mul}
 use native.Mathlib.Omega.{arith}
 use native.Mathlib.Decide.{decLt}
 use lib.Dec.{T}
-use lib.Bits.{bitAnd, bitOr}
-use lib.Pow.{pow-pos, pow-mono, shr-le}
+use lib.Bits.{bitXor, xor-self, xor-zero-r, and-mask}
+use lib.Pow.{pow-mono, shr-le}
 use Rattle.words.specs.Bits.{bit, _⊑_}
 use Rattle.words.specs.Word.{Bounded}
-use Rattle.words.proofs.Order.{bit-high, ⊑-le, ⊑-refl, ⊑-trans}
-use Rattle.words.proofs.Ops.{bit-and, bit-or, bit-shr, bit-mod-low}
-use Rattle.rules.specs.Kinds.{Place, R, A, B, S, Op, COPY, SLICE, SHR, op, kindOf}
+use Rattle.words.proofs.Order.{bit-lt, bit-high, bits-ext, ⊑-le}
+use Rattle.words.proofs.Ops.{bit-and, bit-xor, bit-shr}
+use Rattle.rules.specs.Kinds.{Place, R, A, B, S, Op, COPY, SLICE, SHR, op}
 use Rattle.rules.specs.Rows.{row, operand}
 use Rattle.rules.specs.Meaning.{result}
 use Rattle.rules.specs.Fits.{Legal}
-use Rattle.hull.specs.declared.Widths.{Widths}
 use Rattle.hull.specs.declared.Bounds.{Bounds}
-use Rattle.hull.specs.Moves.{part, put, sliceOf}
-use Rattle.hull.specs.Narrowing.{shapeOf, spanOf, widthOf, Narrows}
-use Rattle.hull.proofs.Parts.{by-parts, same-bits, bit-part, bit-part-high, put-low, put-same, put-new}
-use Rattle.hull.proofs.Ends.{Pair, Ends, ends-narrow}
+use Rattle.hull.specs.Moves.{shlBy, part, intoPart, sliceOf}
+use Rattle.hull.specs.Narrowing.{spanOf, Narrows}
+use Rattle.hull.proofs.Parts.{by-parts, shl-low, shl-at, shl-out, part-at, part-high}
+use Rattle.hull.proofs.Alone.{Alone, alone-narrows}
 
--- SLICE goes bit by bit
-slices : (k m r a : ℕ) → r < 2 ^ m → (r ≡ a / 2 ^ k % 2 ^ m) ↔ ((j : ℕ) → j < m → bit r j ≡ bit a (k + j))
-slices k m r a h = (
-  λ e j l. ap (λ (x : ℕ). bit x j) e ∙ bit-mod-low (a / 2 ^ k) m j l ∙ bit-shr a k j,
-  λ f. same-bits m r (a / 2 ^ k % 2 ^ m) h (mod-lt (a / 2 ^ k) (pow-pos m)) (λ j l. f j l ∙ sym (bit-mod-low (a / 2 ^ k) m j l ∙ bit-shr a k j)),
-)
+-- ---- the bits of x with n put in
+
+module _ (k m x n : ℕ) where
+  abbrev d : ℕ
+  d = bitXor (part k m x) n
+
+  into-low : (j : ℕ) → j < k → bit (intoPart k m x n) j ≡ bit x j
+  into-low j l = omega (arith, bit-xor j x (shlBy d k), shl-low d k j l, bit-lt x j)
+
+  into-at : (i : ℕ) → i < m → k + i < 64 → bit (intoPart k m x n) (k + i) ≡ bit n i
+  into-at i l h = omega (arith, bit-xor (k + i) x (shlBy d k), shl-at d k i h, bit-xor i (part k m x) n, part-at k m x i l, bit-lt x (k + i), bit-lt n i)
+
+  into-high : (i : ℕ) → m ≤ i → bit n i ≡ 0 → bit (intoPart k m x n) (k + i) ≡ bit x (k + i)
+  into-high i l z = go (decLt (k + i) 64)
+    where
+      go : Dec (k + i < 64) → bit (intoPart k m x n) (k + i) ≡ bit x (k + i)
+      go (yes h) = omega (arith, bit-xor (k + i) x (shlBy d k), shl-at d k i h, bit-xor i (part k m x) n, part-high k m x i l, bit-lt x (k + i))
+      go (no h) = omega (arith, bit-xor (k + i) x (shlBy d k), shl-out d k (k + i) (omega arith), bit-lt x (k + i))
+
+  into-out : (i : ℕ) → 64 ≤ k + i → bit (intoPart k m x n) (k + i) ≡ bit x (k + i)
+  into-out i h = omega (arith, bit-xor (k + i) x (shlBy d k), shl-out d k (k + i) h, bit-lt x (k + i))
 
 module _ (o : Op) (κ : ℕ) (w : Place → ℕ) (t : Bounds) (noB : ¬ T (operand (row o) B)) (noS : ¬ T (operand (row o) S)) (k m : ℕ)
-    (br : Bounded m (t .rl) (t .rh)) (ba : Bounded 64 (t .al) (t .ah))
-    (says : (r a : ℕ) → a ⊑ t .ah → (r ≡ result o w κ a 0 0) ↔ (r ≡ a / 2 ^ k % 2 ^ m)) where
-  abbrev l : ℕ
-  l = bitOr (t .rl) (part k m (t .al))
+    (ba : Bounded 64 (t .al) (t .ah))
+    (says : (a b s : ℕ) → a ⊑ t .ah → result o w κ a b s ≡ a / 2 ^ k % 2 ^ m) where
+  -- what r can be has no bits from m on
+  small : {n : ℕ} → n ⊑ part k m (t .ah) → (i : ℕ) → m ≤ i → bit n i ≡ 0
+  small q i l = omega (arith, q .bits i, part-high k m (t .ah) i l)
 
-  abbrev h : ℕ
-  h = bitAnd (t .rh) (part k m (t .ah))
+  mono : {a a′ r r′ : ℕ} → a ⊑ a′ → r ⊑ r′ → r′ ⊑ part k m (t .ah) → (i : ℕ) → Dec (i < m) → Dec (k + i < 64)
+      → bit (intoPart k m a r) (k + i) ≤ bit (intoPart k m a′ r′) (k + i)
+  mono {a} {a′} {r} {r′} q n l i (yes h) (yes g) = omega (arith, into-at k m a r i h g, into-at k m a′ r′ i h g, n .bits i)
+  mono {a} {a′} {r} {r′} q n l i (yes h) (no g) = omega (arith, into-out k m a r i (omega arith), into-out k m a′ r′ i (omega arith), q .bits (k + i))
+  mono {a} {a′} {r} {r′} q n l i (no h) g =
+      let z = small l i (omega arith) in
+      omega (arith, into-high k m a r i (omega arith) (omega (arith, n .bits i)), into-high k m a′ r′ i (omega arith) z, q .bits (k + i))
 
-  abbrev P : ℕ → ℕ → Type 0
-  P r a = Pair o κ w t noB noS r a
-
-  linked : {r a : ℕ} → P r a → (j : ℕ) → j < m → bit r j ≡ bit a (k + j)
-  linked {r} {a} x = slices k m r a (lt-of-le-of-lt (⊑-le _ _ (x .top-r)) (br .below)) .0 (says r a (x .top-a) .0 (x .holds))
-
-  -- what lies under h has no bits but those of a's high bound
-  under-h : {n : ℕ} → n ⊑ h → (j : ℕ) → bit n j ≤ bit (part k m (t .ah)) j
-  under-h n j = omega (arith, n .bits j, bit-and j (t .rh) (part k m (t .ah)))
-
-  -- the bits of x with n put in
-  module _ (x n : ℕ) (xh : x ⊑ t .ah) (nh : n ⊑ h) where
-    abbrev y : ℕ
-    y = put x k (part k m x) n
-
-    y-low : (j : ℕ) → j < k → bit y j ≡ bit x j
-    y-low j = put-low x k (part k m x) n j
-
-    y-at : (i : ℕ) → i < m → bit y (k + i) ≡ bit n i
-    y-at i q = go (decLt (k + i) 64)
-      where
-        go : Dec (k + i < 64) → bit y (k + i) ≡ bit n i
-        go (yes p) = put-new x k (part k m x) n i p (bit-part k m x i q)
-        go (no p) =
-            let z : bit (t .ah) (k + i) ≡ 0 = bit-high (t .ah) 64 (k + i) (ba .below) (omega arith) in
-            let zx : bit x (k + i) ≡ 0 = omega (arith, xh .bits (k + i)) in
-            let zn : bit n i ≡ 0 = omega (arith, under-h nh i, bit-part k m (t .ah) i q) in
-            put-same x k (part k m x) n i (bit-part k m x i q ∙ zx ∙ sym zn) ∙ zx ∙ sym zn
-
-    y-high : (i : ℕ) → m ≤ i → bit y (k + i) ≡ bit x (k + i)
-    y-high i q = put-same x k (part k m x) n i (omega (arith, bit-part-high k m x i q, under-h nh i, bit-part-high k m (t .ah) i q))
-
-    -- with n at r, this is a fit
-    fits : t .al ⊑ x → t .rl ⊑ n → part k m (t .al) ⊑ n → P n y
-    fits xl nl np = record {
-      low-r = nl;
-      top-r = record { bits = λ j. omega (arith, nh .bits j, bit-and j (t .rh) (part k m (t .ah))) };
-      low-a = record { bits = by-parts (λ j. bit (t .al) j ≤ bit y j) k (λ j q. omega (arith, y-low j q, xl .bits j)) (λ i. low i (decLt i m)) };
-      top-a = top;
-      holds = says n y top .1 (slices k m n y small .1 (λ j q. sym (y-at j q)));
-    }
-      where
-        small : n < 2 ^ m
-        small = omega (arith, ⊑-le _ _ nh, ⊑-le h (t .rh) (record { bits = λ j. omega (arith, bit-and j (t .rh) (part k m (t .ah))) }), br .below)
-
-        low : (i : ℕ) → Dec (i < m) → bit (t .al) (k + i) ≤ bit y (k + i)
-        low i (yes q) = omega (arith, y-at i q, np .bits i, bit-part k m (t .al) i q)
-        low i (no q) = omega (arith, y-high i (omega arith), xl .bits (k + i))
-
-        high : (i : ℕ) → Dec (i < m) → bit y (k + i) ≤ bit (t .ah) (k + i)
-        high i (yes q) = omega (arith, y-at i q, under-h nh i, bit-part k m (t .ah) i q)
-        high i (no q) = omega (arith, y-high i (omega arith), xh .bits (k + i))
-
-        top : y ⊑ t .ah
-        top = record { bits = by-parts (λ j. bit y j ≤ bit (t .ah) j) k (λ j q. omega (arith, y-low j q, xh .bits j)) (λ i. high i (decLt i m)) }
-
-  ends : Ends o κ w t noB noS l h (put (t .al) k (part k m (t .al)) l) (put (t .ah) k (part k m (t .ah)) h)
-  ends = record {
-    r-from = r-from;
-    r-to = r-to;
-    a-from = λ q r a x. record {
-      bits = by-parts (λ j. bit (y (t .al) l (ba .under) q) j ≤ bit a j) k (λ j p. omega (arith, y-low (t .al) l (ba .under) q j p, x .low-a .bits j))
-          (λ i. a-low q r a x i (decLt i m));
-    };
-    a-to = λ q r a x. record {
-      bits = by-parts (λ j. bit a j ≤ bit (y (t .ah) h (⊑-refl _) (⊑-refl h)) j) k
-          (λ j p. omega (arith, y-low (t .ah) h (⊑-refl _) (⊑-refl h) j p, x .top-a .bits j)) (λ i. a-high r a x i (decLt i m));
-    };
-    r-least = λ q. (y (t .al) l (ba .under) q, least q);
-    r-most = λ q. (y (t .ah) h (⊑-refl _) (⊑-refl h), most q);
-    a-least = λ q. (l, least q);
-    a-most = λ q. (h, most q);
-  }
-    where
-      r-from : (r a : ℕ) → P r a → l ⊑ r
-      r-from r a x = record { bits = λ j. go j (decLt j m) }
-        where
-          go : (j : ℕ) → Dec (j < m) → bit l j ≤ bit r j
-          go j (yes q) = omega (arith, bit-or j (t .rl) (part k m (t .al)), bit-part k m (t .al) j q, linked x j q, x .low-r .bits j, x .low-a .bits (k + j))
-          go j (no q) = omega (arith, bit-or j (t .rl) (part k m (t .al)), bit-part-high k m (t .al) j (omega arith), x .low-r .bits j)
-
-      r-to : (r a : ℕ) → P r a → r ⊑ h
-      r-to r a x = record { bits = λ j. go j (decLt j m) }
-        where
-          go : (j : ℕ) → Dec (j < m) → bit r j ≤ bit h j
-          go j (yes q) = omega (arith, bit-and j (t .rh) (part k m (t .ah)), bit-part k m (t .ah) j q, linked x j q, x .top-r .bits j, x .top-a .bits (k + j))
-          go j (no q) = omega (arith, x .top-r .bits j, bit-high (t .rh) m j (br .below) (omega arith))
-
-      a-low : (q : l ⊑ h) (r a : ℕ) → P r a → (i : ℕ) → Dec (i < m) → bit (y (t .al) l (ba .under) q) (k + i) ≤ bit a (k + i)
-      a-low q r a x i (yes p) = omega (arith, y-at (t .al) l (ba .under) q i p, r-from r a x .bits i, linked x i p)
-      a-low q r a x i (no p) = omega (arith, y-high (t .al) l (ba .under) q i (omega arith), x .low-a .bits (k + i))
-
-      a-high : (r a : ℕ) → P r a → (i : ℕ) → Dec (i < m) → bit a (k + i) ≤ bit (y (t .ah) h (⊑-refl _) (⊑-refl h)) (k + i)
-      a-high r a x i (yes p) = omega (arith, y-at (t .ah) h (⊑-refl _) (⊑-refl h) i p, r-to r a x .bits i, linked x i p)
-      a-high r a x i (no p) = omega (arith, y-high (t .ah) h (⊑-refl _) (⊑-refl h) i (omega arith), x .top-a .bits (k + i))
-
-      least : (q : l ⊑ h) → P l (y (t .al) l (ba .under) q)
-      least q =
-          fits (t .al) l (ba .under) q (⊑-refl _) (record { bits = λ j. omega (arith, bit-or j (t .rl) (part k m (t .al))) })
-          (record { bits = λ j. omega (arith, bit-or j (t .rl) (part k m (t .al))) })
-
-      most : (q : l ⊑ h) → P h (y (t .ah) h (⊑-refl _) (⊑-refl h))
-      most q =
-          fits (t .ah) h (⊑-refl _) (⊑-refl h) (ba .under) (⊑-trans (record { bits = λ j. omega (arith, bit-or j (t .rl) (part k m (t .al))) }) q)
-          (⊑-trans (record { bits = λ j. omega (arith, bit-or j (t .rl) (part k m (t .al))) }) q)
+  got : {a r : ℕ} → a ⊑ t .ah → r ⊑ part k m (t .ah) → (i : ℕ) → Dec (i < m) → Dec (k + i < 64) → bit (part k m (intoPart k m a r)) i ≡ bit r i
+  got {a} {r} q l i (yes h) (yes g) = part-at k m _ i h ∙ into-at k m a r i h g
+  got {a} {r} q l i (yes h) (no g) =
+      let z = bit-high (t .ah) 64 (k + i) (ba .below) (omega arith) in
+      omega (arith, part-at k m (intoPart k m a r) i h, into-out k m a r i (omega arith), q .bits (k + i), l .bits i, part-at k m (t .ah) i h)
+  got {a} {r} q l i (no h) g = part-high k m _ i (omega arith) ∙ sym (small l i (omega arith))
 
   slice-narrows : Narrows (record { kind = op o; k = κ; width = w }) t (sliceOf k m t)
   unfolding sliceOf
-  slice-narrows = ends-narrow o κ w t noB noS l h (put (t .al) k (part k m (t .al)) l) (put (t .ah) k (part k m (t .ah)) h) ends
+  slice-narrows =
+      alone-narrows o κ w t noB noS (part k m) (intoPart k m)
+      (record {
+        proper = ba .under;
+        says = λ {a} b s q. says a b s q ∙ sym (and-mask (a / 2 ^ k) m);
+        get-mono = λ {a} {a′} q l. record { bits = λ i. omega (arith, bit-and i (a / 2 ^ k) (2 ^ m - 1), bit-and i (a′ / 2 ^ k) (2 ^ m - 1), bit-shr a k i, bit-shr a′ k i, q .bits (k + i)) };
+        into-mono = λ {a} {a′} {r} {r′} q g n l. record {
+          bits = by-parts (λ j. bit (intoPart k m a r) j ≤ bit (intoPart k m a′ r′) j) k
+              (λ j h. omega (arith, into-low k m a r j h, into-low k m a′ r′ j h, q .bits j)) (λ i. mono q n l i (decLt i m) (decLt (k + i) 64));
+        };
+        back = λ {a} q. rw (xor-self (part k m a), zero-mul, xor-zero-r);
+        reached = λ {a} {r} q l. bits-ext _ _ (λ i. got q l i (decLt i m) (decLt (k + i) 64));
+      })
 
--- a word's bounds are bounds of 64 bits
-pub bounded-64 : {w lo hi : ℕ} → w ≤ 64 → Bounded w lo hi → Bounded 64 lo hi
-bounded-64 l h = record { under = h .under; below = omega (arith, h .below, pow-mono l) }
+module _ (k : ℕ) (w : Place → ℕ) (t : Bounds) (wide : w A ≤ 64) (ba : Bounded (w A) (t .al) (t .ah)) where
+  bounds-64 : Bounded 64 (t .al) (t .ah)
+  bounds-64 = record { under = ba .under; below = omega (arith, ba .below, pow-mono wide) }
 
-pub copy-narrows : (k : ℕ) (w : Widths) (t : Bounds) → Legal (shapeOf 1 k w) (spanOf t) → Narrows (shapeOf 1 k w) t (sliceOf 0 (w .r) t)
-unfolding kindOf
-copy-narrows k w t legal =
-    slice-narrows COPY k (widthOf w) t (λ x. x) (λ x. x) 0 (w .r) (legal .bounded R tt) (bounded-64 (legal .width A tt .high) (legal .bounded A tt))
-    (λ r a q.
-    (let e : a / 2 ^ 0 % 2 ^ w .r ≡ a =
-    rw (div-one a) (mod-eq-of-lt (omega (arith, ⊑-le _ _ q, rw (← legal .fitting) at (legal .bounded A tt .below)))) in
-    (λ h. h ∙ sym e, λ h. h ∙ e)))
+  -- what lies under a's high bound keeps to the width of a, also shifted down
+  within : (i a : ℕ) → w R ≡ w A → a ⊑ t .ah → a / 2 ^ i % 2 ^ w R ≡ a / 2 ^ i
+  within i a e q = mod-eq-of-lt (rw e (omega (arith, shr-le a i, ⊑-le _ _ q, ba .below)))
 
-pub slice-kind-narrows : (k : ℕ) (w : Widths) (t : Bounds) → Legal (shapeOf 8 k w) (spanOf t) → Narrows (shapeOf 8 k w) t (sliceOf k (w .r) t)
-unfolding kindOf
-slice-kind-narrows k w t legal =
-    slice-narrows SLICE k (widthOf w) t (λ x. x) (λ x. x) k (w .r) (legal .bounded R tt) (bounded-64 (legal .width A tt .high) (legal .bounded A tt))
-    (λ r a q. (λ h. h, λ h. h))
+  pub copy-narrows : w R ≡ w A → Narrows (record { kind = op COPY; k = k; width = w }) t (sliceOf 0 (w R) t)
+  copy-narrows e =
+      slice-narrows COPY k w t (λ u. u) (λ u. u) 0 (w R) bounds-64 (λ a b s q. sym (within 0 a e q ∙ div-one a))
 
-pub shr-narrows : (k : ℕ) (w : Widths) (t : Bounds) → Legal (shapeOf 11 k w) (spanOf t) → Narrows (shapeOf 11 k w) t (sliceOf k (w .r) t)
-unfolding kindOf
-shr-narrows k w t legal =
-    slice-narrows SHR k (widthOf w) t (λ x. x) (λ x. x) k (w .r) (legal .bounded R tt) (bounded-64 (legal .width A tt .high) (legal .bounded A tt))
-    (λ r a q.
-    (let e : a / 2 ^ k % 2 ^ w .r ≡ a / 2 ^ k =
-    mod-eq-of-lt (omega (arith, shr-le a k, ⊑-le _ _ q, rw (← legal .fitting .0) at (legal .bounded A tt .below))) in
-    (λ h. h ∙ sym e, λ h. h ∙ e)))
+  pub slice-kind-narrows : Narrows (record { kind = op SLICE; k = k; width = w }) t (sliceOf k (w R) t)
+  slice-kind-narrows = slice-narrows SLICE k w t (λ u. u) (λ u. u) k (w R) bounds-64 (λ a b s q. refl)
+
+  pub shr-narrows : w R ≡ w A → Narrows (record { kind = op SHR; k = k; width = w }) t (sliceOf k (w R) t)
+  shr-narrows e = slice-narrows SHR k w t (λ u. u) (λ u. u) k (w R) bounds-64 (λ a b s q. sym (within k a e q))

@@ -1,0 +1,88 @@
+-- What is computed for each kind is the hull: the theorem of the fourteen kinds. And what each function asks of a rule follows from a legal one.
+-- Assumes nothing.
+use mathlib.Core.Path.{_≡_, refl, ap, _∙_}
+use Prim.Native.Nat.{ℕ, zero, suc, _+_, _-_, _<_}
+use native.Mathlib.Omega.{arith}
+use lib.Dec.{T}
+use Rattle.words.specs.Word.{Width}
+use Rattle.rules.specs.Kinds.{R, A, B, COPY, NOT, AND, OR, XOR, ADD, ITE, SLICE, JOIN, SHL, SHR, ULE, ULT, NE, Kind, op, rel, kindOf}
+use Rattle.rules.specs.Rows.{uses}
+use Rattle.rules.specs.Fits.{Legal}
+use Rattle.hull.specs.declared.Widths.{Widths}
+use Rattle.hull.specs.declared.Bounds.{Bounds}
+use Rattle.hull.specs.declared.Narrowed.{Narrowed}
+use Rattle.hull.specs.ByColumns.{columnsOf}
+use Rattle.hull.specs.Narrowing.{shapeAs, shapeOf, spanOf, widthOf, narrowedAs, Narrows}
+use Rattle.hull.proofs.Table.{below}
+use Rattle.hull.proofs.Slices.{copy-narrows, slice-kind-narrows, shr-narrows}
+use Rattle.hull.proofs.Inverts.{not-narrows}
+use Rattle.hull.proofs.Shifts.{shl-narrows}
+use Rattle.hull.proofs.Joins.{join-narrows}
+use Rattle.hull.proofs.ColumnKinds.{and-narrows, or-narrows, xor-narrows, add-narrows, ite-narrows, ule-narrows, ult-narrows, ne-narrows}
+
+-- SHL and SHR look at no more than that r and a are of one width: their k may be any
+pub narrowed-hull : (κ : Kind) (k : ℕ) (w : Widths) (t : Bounds) → Legal (shapeAs κ k w) (spanOf t) → Narrows (shapeAs κ k w) t (narrowedAs κ k w t)
+narrowed-hull (op COPY) k w t l = copy-narrows k (widthOf w) t (l .width A tt .high) (l .bounded A tt) (l .fitting)
+narrowed-hull (op NOT) k w t l = not-narrows k (widthOf w) t (l .bounded R tt) (rw (l .fitting) (l .bounded A tt))
+narrowed-hull (op AND) k w t l = and-narrows k (widthOf w) t l
+narrowed-hull (op OR) k w t l = or-narrows k (widthOf w) t l
+narrowed-hull (op XOR) k w t l = xor-narrows k (widthOf w) t l
+narrowed-hull (op ADD) k w t l = add-narrows k (widthOf w) t l
+narrowed-hull (op ITE) k w t l = ite-narrows k (widthOf w) t l
+narrowed-hull (op SLICE) k w t l = slice-kind-narrows k (widthOf w) t (l .width A tt .high) (l .bounded A tt)
+narrowed-hull (op JOIN) k w t l =
+    join-narrows k (widthOf w) t (w .a) (omega (arith, l .fitting, l .width R tt .high)) (l .bounded A tt) (l .bounded B tt)
+narrowed-hull (op SHL) k w t l = shl-narrows k (widthOf w) t (l .width R tt .high) (l .bounded A tt .under)
+narrowed-hull (op SHR) k w t l = shr-narrows k (widthOf w) t (l .width A tt .high) (l .bounded A tt) (l .fitting .0)
+narrowed-hull (rel ULE) k w t l = ule-narrows k (widthOf w) t l
+narrowed-hull (rel ULT) k w t l = ult-narrows k (widthOf w) t l
+narrowed-hull (rel NE) k w t l = ne-narrows k (widthOf w) t l
+
+module _ (κ k : ℕ) (w : Widths) (t : Bounds) (legal : Legal (shapeOf κ k w) (spanOf t)) where
+  -- what the code returns is what is computed for the kind
+  pub told : (r : Narrowed) → r ≡ narrowedAs (kindOf κ) k w t → Narrows (shapeOf κ k w) t r
+  told r e = rw e (narrowed-hull (kindOf κ) k w t legal)
+
+  pub told-kind : (n : ℕ) (r : Narrowed) → κ ≡ n → r ≡ narrowedAs (kindOf n) k w t → Narrows (shapeOf κ k w) t r
+  told-kind n r d e = told r (rw d e)
+
+  -- the kinds up to 11 use r, and all use a
+  pub r-width : κ < 12 → Width (w .r)
+  unfolding kindOf
+  r-width l = legal .width R (below (λ n. uses (kindOf n) R) 12 tt κ l)
+
+  pub a-width : Width (w .a)
+  a-width = legal .width A (uses-a (kindOf κ))
+    where
+      uses-a : (x : Kind) → T (uses x A)
+      uses-a (op o) = tt
+      uses-a (rel x) = tt
+
+  pub join-asks : κ ≡ 9 → (w .b < 64) × Width (w .b)
+  unfolding kindOf
+  join-asks e =
+      let g : Legal (shapeOf 9 k w) (spanOf t) = rw e at legal in
+      (omega (arith, g .fitting, g .width R tt .high, g .width A tt .low), g .width B tt)
+
+-- the numbers of the kinds that go by columns: 3 to 7, and 12 to 14
+pub computed-told : (κ k : ℕ) (w : Widths) (t : Bounds) → 2 < κ → κ < 8 → columnsOf κ (w .a) t ≡ narrowedAs (kindOf κ) k w t
+unfolding kindOf
+computed-told κ k w t l h = let e : 3 + (κ - 3) ≡ κ = omega arith in rw e at (go (κ - 3) (omega arith))
+  where
+    go : (n : ℕ) → n < 5 → columnsOf (3 + n) (w .a) t ≡ narrowedAs (kindOf (3 + n)) k w t
+    go zero l = refl
+    go (suc zero) l = refl
+    go (suc (suc zero)) l = refl
+    go (suc (suc (suc zero))) l = refl
+    go (suc (suc (suc (suc zero)))) l = refl
+    go (suc (suc (suc (suc (suc n))))) l = absurd (omega arith)
+
+pub compared-told : (κ k : ℕ) (w : Widths) (t : Bounds) → 11 < κ → κ < 15 → columnsOf κ (w .a) t ≡ narrowedAs (kindOf κ) k w t
+unfolding kindOf
+compared-told κ k w t l h = let e : 12 + (κ - 12) ≡ κ = omega arith in rw e at (go (κ - 12) (omega arith))
+  where
+    go : (n : ℕ) → n < 3 → columnsOf (12 + n) (w .a) t ≡ narrowedAs (kindOf (12 + n)) k w t
+    go zero l = refl
+    go (suc zero) l = refl
+    go (suc (suc zero)) l = refl
+    go (suc (suc (suc n))) l = absurd (omega arith)

@@ -1,0 +1,118 @@
+-- A kind that computes has at most one fit where its operands are fixed: what it computes of them, if that lies between the bounds of r.
+-- Assumes nothing.
+use mathlib.Core.Path.{_≡_, refl, sym, _∙_}
+use mathlib.Core.Logic.{_≢_}
+use Prim.Native.Nat.{ℕ}
+use native.Mathlib.Omega.{arith}
+use lib.Bits.{bitAnd, bitOr}
+use Rattle.words.specs.Bits.{_⊑_, under}
+use Rattle.words.proofs.Order.{bit-lt, ⊑-refl, ⊑-trans, ⊑-antisym}
+use Rattle.words.proofs.Ops.{bit-and, bit-or, under-sound, under-complete}
+use Rattle.rules.specs.Kinds.{Place, R, A, B, S, Op, op}
+use Rattle.rules.specs.Meaning.{Shape, result}
+use Rattle.rules.specs.Fits.{Uses, Fit, Hull}
+use Rattle.rules.proofs.Used.{result-used, A≢R, B≢R, S≢R}
+use Rattle.rules.proofs.Hulls.{hull-of-ends}
+use Rattle.hull.specs.declared.Bounds.{Bounds}
+use Rattle.hull.specs.Moves.{withRA}
+use Rattle.hull.specs.ByColumns.{settled}
+use Rattle.hull.specs.Narrowing.{spanOf, loOf, hiOf, Narrows}
+use Rattle.hull.proofs.Decided.{Owed, narrows}
+
+module _ (o : Op) (k : ℕ) (w : Place → ℕ) (t : Bounds) (v : ℕ) where
+  abbrev σ : Shape
+  σ = record { kind = op o; k = k; width = w }
+
+  abbrev l : ℕ
+  l = bitOr (t .rl) v
+
+  abbrev h : ℕ
+  h = bitAnd (t .rh) v
+
+  abbrev left-over : Bounds
+  left-over = withRA l h (t .al) (t .ah) t
+
+  -- the one value at each place
+  abbrev only : Place → ℕ
+  only R = v
+  only A = t .al
+  only B = t .bl
+  only S = t .sl
+
+  module _ (fixed : (p : Place) → Uses σ p → p ≢ R → loOf t p ≡ hiOf t p) (says : v ≡ result o w k (t .al) (t .bl) (t .sl)) where
+    is-only : {f : Place → ℕ} → Fit σ (spanOf t) f → (p : Place) → Uses σ p → f p ≡ only p
+    is-only {f} fit p used = go p used
+      where
+        operand-is : (p : Place) → Uses σ p → p ≢ R → f p ≡ loOf t p
+        operand-is p used d = ⊑-antisym (rw (fixed p used d) (fit .to p used)) (fit .from p used)
+
+        go : (p : Place) → Uses σ p → f p ≡ only p
+        go R used =
+            fit .holds ∙ result-used o w k _ _ _ _ _ _ (operand-is A tt A≢R) (λ u. operand-is B u B≢R) (λ u. operand-is S u S≢R) ∙ sym says
+        go A used = operand-is A used A≢R
+        go B used = operand-is B used B≢R
+        go S used = operand-is S used S≢R
+
+    module _ (q : l ⊑ h) where
+      r-low : t .rl ⊑ v
+      r-low = record { bits = λ j. omega (arith, q .bits j, bit-or j (t .rl) v, bit-and j (t .rh) v) }
+
+      r-top : v ⊑ t .rh
+      r-top = record { bits = λ j. omega (arith, q .bits j, bit-or j (t .rl) v, bit-and j (t .rh) v) }
+
+      l-is : l ≡ v
+      l-is =
+          ⊑-antisym (record { bits = λ j. omega (arith, q .bits j, bit-and j (t .rh) v) }) (record { bits = λ j. omega (arith, bit-or j (t .rl) v) })
+
+      h-is : h ≡ v
+      h-is =
+          ⊑-antisym (record { bits = λ j. omega (arith, bit-and j (t .rh) v) }) (record { bits = λ j. omega (arith, q .bits j, bit-or j (t .rl) v) })
+
+      lo-is : (p : Place) → loOf left-over p ≡ only p
+      lo-is R = l-is
+      lo-is A = refl
+      lo-is B = refl
+      lo-is S = refl
+
+      hi-is : (p : Place) → Uses σ p → hiOf left-over p ≡ only p
+      hi-is R used = h-is
+      hi-is A used = sym (fixed A used A≢R)
+      hi-is B used = sym (fixed B used B≢R)
+      hi-is S used = sym (fixed S used S≢R)
+
+      only-fit : Fit σ (spanOf t) only
+      only-fit = record { from = from; to = to; holds = says }
+        where
+          from : (p : Place) → Uses σ p → loOf t p ⊑ only p
+          from R used = r-low
+          from A used = ⊑-refl _
+          from B used = ⊑-refl _
+          from S used = ⊑-refl _
+
+          to : (p : Place) → Uses σ p → only p ⊑ hiOf t p
+          to R used = r-top
+          to A used = rw (fixed A used A≢R) (⊑-refl _)
+          to B used = rw (fixed B used B≢R) (⊑-refl _)
+          to S used = rw (fixed S used S≢R) (⊑-refl _)
+
+      owed : Owed σ t left-over
+      owed = record { some = (only, only-fit); hull = hull; rest = rest }
+        where
+          hull : (p : Place) → Uses σ p → Hull σ (spanOf t) p (loOf left-over p) (hiOf left-over p)
+          hull p used =
+              rw (lo-is p, hi-is p used)
+              (hull-of-ends p only-fit only-fit (λ f fit. rw (is-only fit p used) (⊑-refl _)) (λ f fit. rw (is-only fit p used) (⊑-refl _)))
+
+          rest : (p : Place) → ¬ Uses σ p → (loOf left-over p ≡ loOf t p) × (hiOf left-over p ≡ hiOf t p)
+          rest R no-use = absurd (no-use tt)
+          rest A no-use = absurd (no-use tt)
+          rest B no-use = (refl, refl)
+          rest S no-use = (refl, refl)
+
+    fit-under : {f : Place → ℕ} → Fit σ (spanOf t) f → l ⊑ h
+    fit-under {f} fit =
+        let e = is-only fit R tt in
+        record { bits = λ j. omega (arith, bit-or j (t .rl) v, bit-and j (t .rh) v, rw e at (fit .from R tt) .bits j, rw e at (fit .to R tt) .bits j) }
+
+    pub settled-narrows : Narrows σ t (settled v t)
+    settled-narrows = narrows σ t left-over (under l h) (λ f fit. under-complete l h (fit-under fit)) (λ b. owed (under-sound l h b))

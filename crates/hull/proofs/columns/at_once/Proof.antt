@@ -1,0 +1,13 @@
+-- `hull::columns::at_once` meets its contract. Assumes nothing.
+use borrow.Author.Needs.{needs}
+use Rattle.hull.proofs.columns.at_once.Statement.{statement}
+use Rattle.hull.proofs.columns.at_once.Tie as tie
+
+fixed-requires : tie.Need-fixed-requires
+fixed-requires c κs = search needs
+
+returns : tie.Need-returns
+returns c = cc
+
+pub at-once-spec : {M : Type 1} → statement M
+at-once-spec = tie.close (tie.spec fixed-requires returns)
