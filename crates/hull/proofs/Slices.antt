@@ -15,12 +15,11 @@ use Rattle.words.proofs.Ops.{bit-and, bit-xor, bit-shr}
 use Rattle.rules.specs.Kinds.{Place, R, A, B, S, Op, COPY, SLICE, SHR, op}
 use Rattle.rules.specs.Rows.{row, operand}
 use Rattle.rules.specs.Meaning.{result}
-use Rattle.rules.specs.Fits.{Legal}
 use Rattle.hull.specs.declared.Bounds.{Bounds}
 use Rattle.hull.specs.Moves.{shlBy, part, intoPart, sliceOf}
-use Rattle.hull.specs.Narrowing.{spanOf, Narrows}
+use Rattle.hull.specs.Narrowing.{shaped, spanOf, Narrows}
 use Rattle.hull.proofs.Parts.{by-parts, shl-low, shl-at, shl-out, part-at, part-high}
-use Rattle.hull.proofs.Alone.{Alone, alone-narrows}
+use Rattle.hull.proofs.Alone.{alone-narrows}
 
 -- ---- the bits of x with n put in
 
@@ -66,7 +65,7 @@ module _ (o : Op) (κ : ℕ) (w : Place → ℕ) (t : Bounds) (noB : ¬ T (opera
       omega (arith, part-at k m (intoPart k m a r) i h, into-out k m a r i (omega arith), q .bits (k + i), l .bits i, part-at k m (t .ah) i h)
   got {a} {r} q l i (no h) g = part-high k m _ i (omega arith) ∙ sym (small l i (omega arith))
 
-  slice-narrows : Narrows (record { kind = op o; k = κ; width = w }) t (sliceOf k m t)
+  slice-narrows : Narrows (shaped (op o) κ w) (spanOf t) (sliceOf k m t)
   unfolding sliceOf
   slice-narrows =
       alone-narrows o κ w t noB noS (part k m) (intoPart k m)
@@ -90,12 +89,12 @@ module _ (k : ℕ) (w : Place → ℕ) (t : Bounds) (wide : w A ≤ 64) (ba : Bo
   within : (i a : ℕ) → w R ≡ w A → a ⊑ t .ah → a / 2 ^ i % 2 ^ w R ≡ a / 2 ^ i
   within i a e q = mod-eq-of-lt (rw e (omega (arith, shr-le a i, ⊑-le _ _ q, ba .below)))
 
-  pub copy-narrows : w R ≡ w A → Narrows (record { kind = op COPY; k = k; width = w }) t (sliceOf 0 (w R) t)
+  pub copy-narrows : w R ≡ w A → Narrows (shaped (op COPY) k w) (spanOf t) (sliceOf 0 (w R) t)
   copy-narrows e =
       slice-narrows COPY k w t (λ u. u) (λ u. u) 0 (w R) bounds-64 (λ a b s q. sym (within 0 a e q ∙ div-one a))
 
-  pub slice-kind-narrows : Narrows (record { kind = op SLICE; k = k; width = w }) t (sliceOf k (w R) t)
+  pub slice-kind-narrows : Narrows (shaped (op SLICE) k w) (spanOf t) (sliceOf k (w R) t)
   slice-kind-narrows = slice-narrows SLICE k w t (λ u. u) (λ u. u) k (w R) bounds-64 (λ a b s q. refl)
 
-  pub shr-narrows : w R ≡ w A → Narrows (record { kind = op SHR; k = k; width = w }) t (sliceOf k (w R) t)
+  pub shr-narrows : w R ≡ w A → Narrows (shaped (op SHR) k w) (spanOf t) (sliceOf k (w R) t)
   shr-narrows e = slice-narrows SHR k w t (λ u. u) (λ u. u) k (w R) bounds-64 (λ a b s q. sym (within k a e q))
