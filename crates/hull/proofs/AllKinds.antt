@@ -21,7 +21,8 @@ use Rattle.hull.proofs.Joins.{join-narrows}
 use Rattle.hull.proofs.ColumnKinds.{and-narrows, or-narrows, xor-narrows, add-narrows, ite-narrows, ule-narrows, ult-narrows, ne-narrows}
 
 -- SHL and SHR look at no more than that r and a are of one width: their k may be any
-pub narrowed-hull : (κ : Kind) (k : ℕ) (w : Widths) (t : Bounds) → Legal (shaped κ k (widthOf w)) (spanOf t) → Narrows (shaped κ k (widthOf w)) (spanOf t) (narrowedAs κ k w t)
+pub narrowed-hull : (κ : Kind) (k : ℕ) (w : Widths) (t : Bounds) → Legal (shaped κ k (widthOf w)) (spanOf t)
+    → Narrows (shaped κ k (widthOf w)) (spanOf t) (narrowedAs κ k w t)
 narrowed-hull (op COPY) k w t l = copy-narrows k (widthOf w) t (l .width A tt .high) (l .bounded A tt) (l .fitting)
 narrowed-hull (op NOT) k w t l = not-narrows k (widthOf w) t (l .bounded R tt) (rw (l .fitting) (l .bounded A tt))
 narrowed-hull (op AND) k w t l = and-narrows k (widthOf w) t l

@@ -95,9 +95,11 @@ module _ (k : ℕ) (w : Place → ℕ) (t : Bounds) where
   -- a kind o, with the number κ, whose value is computed at once where the operands are fixed
   op-narrows : (o : Op) (u : Auto) (v : ℕ) → ByColumns (shaped (op o) k w) t u false → Legal (shaped (op o) k w) (spanOf t)
       → v ≡ result o w k (t .al) (t .bl) (t .sl)
-      → Narrows (shaped (op o) k w) (spanOf t) (pick (fixedIn (framedBy true (operand (row o) S) false t)) (sweptBy (shaped (op o) k w) t u false) (settled v t))
+      → Narrows (shaped (op o) k w) (spanOf t)
+      (pick (fixedIn (framedBy true (operand (row o) S) false t)) (sweptBy (shaped (op o) k w) t u false) (settled v t))
   op-narrows o u v x legal says =
-      either (fixedIn (framedBy true (operand (row o) S) false t)) _ _ (swept-narrows (shaped (op o) k w) t u false x legal) (λ h. settled-narrows o k w t v (all-fixed o h) says)
+      either (fixedIn (framedBy true (operand (row o) S) false t)) _ _ (swept-narrows (shaped (op o) k w) t u false x legal)
+      (λ h. settled-narrows o k w t v (all-fixed o h) says)
 
   pub and-narrows : Legal (shaped (op AND) k w) (spanOf t) → Narrows (shaped (op AND) k w) (spanOf t) (columnsOf 3 (w A) t)
   unfolding columnsOf sweptOf framedOf leftOf valueOf
@@ -123,7 +125,8 @@ module _ (k : ℕ) (w : Place → ℕ) (t : Bounds) where
       op-narrows ADD (autoOf 6) _ (computed ADD (autoOf 6) tt (legal .fitting) (λ used. absurd used) means) legal
       (rw (legal .fitting .0) (sum-low (w A) (t .al) (t .bl) (legal .width A tt .high)))
     where
-      means : (q : Bool) → (¬ T (operand (row ADD) S) → q ≡ false) → (v : Lane → ℕ) → Under (w A) v → Runs (autoOf 6) (w A) q v ↔ Holds (op ADD) w k (values q v)
+      means : (q : Bool) → (¬ T (operand (row ADD) S) → q ≡ false) → (v : Lane → ℕ) → Under (w A) v
+          → Runs (autoOf 6) (w A) q v ↔ Holds (op ADD) w k (values q v)
       means q is v h =
           let z : v lane-a + v lane-b + 0 ≡ v lane-a + v lane-b = omega arith in
           rw (is (λ used. used), legal .fitting .0, ← z) (sums (w A) false v h)
@@ -138,6 +141,7 @@ module _ (k : ℕ) (w : Place → ℕ) (t : Bounds) where
       op-narrows ITE (autoOf 7) _ (computed ITE (autoOf 7) tt (legal .fitting .0, legal .fitting .1) (λ used. legal .fitting .2) means) legal
       (choose-pick (t .sl) (t .al) (t .bl))
     where
-      means : (q : Bool) → (¬ T (operand (row ITE) S) → q ≡ false) → (v : Lane → ℕ) → Under (w A) v → Runs (autoOf 7) (w A) q v ↔ Holds (op ITE) w k (values q v)
+      means : (q : Bool) → (¬ T (operand (row ITE) S) → q ≡ false) → (v : Lane → ℕ) → Under (w A) v
+          → Runs (autoOf 7) (w A) q v ↔ Holds (op ITE) w k (values q v)
       means true is v h = choices (w A) true v h
       means false is v h = choices (w A) false v h

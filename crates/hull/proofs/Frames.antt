@@ -85,11 +85,8 @@ module _ (σ : Shape) (t : Bounds) (u : Auto) (begin : Bool) where
     lane-of f lane-b = f B
 
     spelt : (f : Place → ℕ) → Fit σ (spanOf t) f → Spelt σ u n (even (frame .sl)) (odd (frame .sh)) (lanesOf frame) f
-    spelt f fit = go (as-bit s (omega (arith, ⊑-le _ _ s-to, one-bit .below)))
+    spelt f fit = go (as-bit (pick d (one begin) (f S)) (omega (arith, ⊑-le _ _ s-to, one-bit .below)))
       where
-        s : ℕ
-        s = pick d (one begin) (f S)
-
         s-to : pick d (one begin) (f S) ⊑ frame .sh
         s-to = pick-in d (one begin) (fit .to S)
 
@@ -113,7 +110,7 @@ module _ (σ : Shape) (t : Bounds) (u : Auto) (begin : Bool) where
           state = q;
           begins = m;
           value = lane-of f;
-          run = record { runs = x .means q (begun q m) (lane-of f) below .1 (only-used (σ .kind) (σ .width) (σ .k) f (values q (lane-of f)) all (fit .holds)); from = from; to = to };
+          run = record { runs = x .means q (begun q m) (lane-of f) below .1 holds; from = from; to = to };
           same = same;
           choice = choice;
         }
@@ -132,6 +129,9 @@ module _ (σ : Shape) (t : Bounds) (u : Auto) (begin : Bool) where
             all A used = refl
             all B used = refl
             all S used = choice used
+
+            holds : Holds (σ .kind) (σ .width) (σ .k) (values q (lane-of f))
+            holds = only-used (σ .kind) (σ .width) (σ .k) f (values q (lane-of f)) all (fit .holds)
 
     fit-of : (q : Bool) (v : Lane → ℕ) → T (may-be q) → RunIn u n q (lanesOf frame) v → Fit σ (spanOf t) (values q v)
     fit-of q v m r = record { from = from; to = to; holds = x .means q (begun q m) v (λ p. omega (arith, ⊑-le _ _ (r .to p), small p .1)) .0 (r .runs) }

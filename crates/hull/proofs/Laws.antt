@@ -24,7 +24,8 @@ use Rattle.hull.specs.Narrowing.{loOf, hiOf, Narrows}
 use Rattle.hull.proofs.WrittenBack.{met-held, met-crossed}
 
 -- for a rule for which every table with P is tight, and what its narrowing in t leaves
-module _ {P : Table → Type 0} (w : List ℕ) (t : Table) (ρ : Rule) (o : Narrowed) (told : (s : Table) → P s → TightAt w s ρ) (x : Narrows (shape w ρ) (span t ρ) o) where
+module _ {P : Table → Type 0} (w : List ℕ) (t : Table) (ρ : Rule) (o : Narrowed) (told : (s : Table) → P s → TightAt w s ρ)
+    (x : Narrows (shape w ρ) (span t ρ) o) where
   -- a rule without a fit is a conflict
   pub unfit-conflict : o .fit ≡ false → Conflict P t
   unfit-conflict e = no-fit told (x .none e)

@@ -11,14 +11,15 @@ use lib.Pow.{pow-mono, shr-le}
 use Rattle.words.specs.Bits.{bit, _⊑_}
 use Rattle.words.specs.Word.{Bounded}
 use Rattle.words.proofs.Order.{bit-lt, bit-high, bits-ext, ⊑-le}
-use Rattle.words.proofs.Ops.{bit-and, bit-xor, bit-shr}
+use Rattle.words.proofs.Ops.{bit-xor}
+use Rattle.words.proofs.Meets.{and-mono}
 use Rattle.rules.specs.Kinds.{Place, R, A, B, S, Op, COPY, SLICE, SHR, op}
 use Rattle.rules.specs.Rows.{row, operand}
 use Rattle.rules.specs.Meaning.{result}
 use Rattle.hull.specs.declared.Bounds.{Bounds}
 use Rattle.hull.specs.Moves.{shlBy, part, intoPart, sliceOf}
 use Rattle.hull.specs.Narrowing.{shaped, spanOf, Narrows}
-use Rattle.hull.proofs.Parts.{by-parts, shl-low, shl-at, shl-out, part-at, part-high}
+use Rattle.hull.proofs.Parts.{by-parts, shl-low, shl-at, shl-out, shr-mono, part-at, part-high}
 use Rattle.hull.proofs.Alone.{alone-narrows}
 
 -- ---- the bits of x with n put in
@@ -72,7 +73,7 @@ module _ (o : Op) (κ : ℕ) (w : Place → ℕ) (t : Bounds) (noB : ¬ T (opera
       (record {
         proper = ba .under;
         says = λ {a} b s q. says a b s q ∙ sym (and-mask (a / 2 ^ k) m);
-        get-mono = λ {a} {a′} q l. record { bits = λ i. omega (arith, bit-and i (a / 2 ^ k) (2 ^ m - 1), bit-and i (a′ / 2 ^ k) (2 ^ m - 1), bit-shr a k i, bit-shr a′ k i, q .bits (k + i)) };
+        get-mono = λ q l. and-mono (2 ^ m - 1) (shr-mono k q);
         into-mono = λ {a} {a′} {r} {r′} q g n l. record {
           bits = by-parts (λ j. bit (intoPart k m a r) j ≤ bit (intoPart k m a′ r′) j) k
               (λ j h. omega (arith, into-low k m a r j h, into-low k m a′ r′ j h, q .bits j)) (λ i. mono q n l i (decLt i m) (decLt (k + i) 64));

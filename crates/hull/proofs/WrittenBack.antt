@@ -14,7 +14,8 @@ use Rattle.rules.specs.Tightening.{Conflict}
 use Rattle.rules.proofs.Narrowed.{narrowed, narrowed-inside}
 use Rattle.rules.proofs.Held.{Held}
 
-module _ {P : Table → Type 0} {t u : Table} (i l h : ℕ) (held : Held P t u) (kept : (s : Table) → P s → Inside s t → (l ⊑ at (s .lo) i) × (at (s .hi) i ⊑ h)) where
+module _ {P : Table → Type 0} {t u : Table} (i l h : ℕ) (held : Held P t u)
+    (kept : (s : Table) → P s → Inside s t → (l ⊑ at (s .lo) i) × (at (s .hi) i ⊑ h)) where
   abbrev l′ : ℕ
   l′ = bitOr (at (u .lo) i) l
 

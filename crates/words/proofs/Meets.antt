@@ -4,6 +4,7 @@ use Prim.Native.Nat.{ℕ}
 use native.Mathlib.Omega.{arith}
 use lib.Bits.{bitAnd, bitOr}
 use Rattle.words.specs.Bits.{_⊑_}
+use Rattle.words.proofs.Order.{⊑-trans}
 use Rattle.words.proofs.Ops.{bit-and, bit-or}
 
 pub ⊑-or-l : (a b : ℕ) → a ⊑ bitOr a b
@@ -23,3 +24,10 @@ and-⊑-r a b = record { bits = λ j. omega (arith, bit-and j a b) }
 
 pub ⊑-and : {a b c : ℕ} → c ⊑ a → c ⊑ b → c ⊑ bitAnd a b
 ⊑-and {a} {b} p q = record { bits = λ j. omega (arith, bit-and j a b, p .bits j, q .bits j) }
+
+-- both keep the order
+pub or-mono : {a b c d : ℕ} → a ⊑ c → b ⊑ d → bitOr a b ⊑ bitOr c d
+or-mono {a} {b} {c} {d} p q = or-⊑ (⊑-trans p (⊑-or-l c d)) (⊑-trans q (⊑-or-r c d))
+
+pub and-mono : {a c : ℕ} (m : ℕ) → a ⊑ c → bitAnd a m ⊑ bitAnd c m
+and-mono {a} {c} m p = ⊑-and (⊑-trans (and-⊑-l a m) p) (and-⊑-r a m)
