@@ -1,6 +1,6 @@
 -- What is computed for each kind is the hull: the theorem of the fourteen kinds. And what each function asks of a rule follows from a legal one.
 -- Assumes nothing.
-use mathlib.Core.Path.{_≡_, refl, ap, _∙_}
+use mathlib.Core.Path.{_≡_, refl}
 use Prim.Native.Nat.{ℕ, zero, suc, _+_, _-_, _<_}
 use native.Mathlib.Omega.{arith}
 use lib.Dec.{T}
@@ -12,7 +12,7 @@ use Rattle.hull.specs.declared.Widths.{Widths}
 use Rattle.hull.specs.declared.Bounds.{Bounds}
 use Rattle.hull.specs.declared.Narrowed.{Narrowed}
 use Rattle.hull.specs.ByColumns.{columnsOf}
-use Rattle.hull.specs.Narrowing.{shapeAs, shapeOf, spanOf, widthOf, narrowedAs, Narrows}
+use Rattle.hull.specs.Narrowing.{shaped, shapeOf, spanOf, widthOf, narrowedAs, Narrows}
 use Rattle.hull.proofs.Table.{below}
 use Rattle.hull.proofs.Slices.{copy-narrows, slice-kind-narrows, shr-narrows}
 use Rattle.hull.proofs.Inverts.{not-narrows}
@@ -21,7 +21,8 @@ use Rattle.hull.proofs.Joins.{join-narrows}
 use Rattle.hull.proofs.ColumnKinds.{and-narrows, or-narrows, xor-narrows, add-narrows, ite-narrows, ule-narrows, ult-narrows, ne-narrows}
 
 -- SHL and SHR look at no more than that r and a are of one width: their k may be any
-pub narrowed-hull : (κ : Kind) (k : ℕ) (w : Widths) (t : Bounds) → Legal (shapeAs κ k w) (spanOf t) → Narrows (shapeAs κ k w) t (narrowedAs κ k w t)
+pub narrowed-hull : (κ : Kind) (k : ℕ) (w : Widths) (t : Bounds) → Legal (shaped κ k (widthOf w)) (spanOf t)
+    → Narrows (shaped κ k (widthOf w)) (spanOf t) (narrowedAs κ k w t)
 narrowed-hull (op COPY) k w t l = copy-narrows k (widthOf w) t (l .width A tt .high) (l .bounded A tt) (l .fitting)
 narrowed-hull (op NOT) k w t l = not-narrows k (widthOf w) t (l .bounded R tt) (rw (l .fitting) (l .bounded A tt))
 narrowed-hull (op AND) k w t l = and-narrows k (widthOf w) t l
@@ -40,10 +41,10 @@ narrowed-hull (rel NE) k w t l = ne-narrows k (widthOf w) t l
 
 module _ (κ k : ℕ) (w : Widths) (t : Bounds) (legal : Legal (shapeOf κ k w) (spanOf t)) where
   -- what the code returns is what is computed for the kind
-  pub told : (r : Narrowed) → r ≡ narrowedAs (kindOf κ) k w t → Narrows (shapeOf κ k w) t r
+  pub told : (r : Narrowed) → r ≡ narrowedAs (kindOf κ) k w t → Narrows (shapeOf κ k w) (spanOf t) r
   told r e = rw e (narrowed-hull (kindOf κ) k w t legal)
 
-  pub told-kind : (n : ℕ) (r : Narrowed) → κ ≡ n → r ≡ narrowedAs (kindOf n) k w t → Narrows (shapeOf κ k w) t r
+  pub told-kind : (n : ℕ) (r : Narrowed) → κ ≡ n → r ≡ narrowedAs (kindOf n) k w t → Narrows (shapeOf κ k w) (spanOf t) r
   told-kind n r d e = told r (rw d e)
 
   -- the kinds up to 11 use r, and all use a
@@ -58,11 +59,9 @@ module _ (κ k : ℕ) (w : Widths) (t : Bounds) (legal : Legal (shapeOf κ k w) 
       uses-a (op o) = tt
       uses-a (rel x) = tt
 
-  pub join-asks : κ ≡ 9 → (w .b < 64) × Width (w .b)
+  pub b-width : κ ≡ 9 → Width (w .b)
   unfolding kindOf
-  join-asks e =
-      let g : Legal (shapeOf 9 k w) (spanOf t) = rw e at legal in
-      (omega (arith, g .fitting, g .width R tt .high, g .width A tt .low), g .width B tt)
+  b-width e = let g : Legal (shapeOf 9 k w) (spanOf t) = rw e at legal in g .width B tt
 
 -- the numbers of the kinds that go by columns: 3 to 7, and 12 to 14
 pub computed-told : (κ k : ℕ) (w : Widths) (t : Bounds) → 2 < κ → κ < 8 → columnsOf κ (w .a) t ≡ narrowedAs (kindOf κ) k w t

@@ -11,8 +11,8 @@ use Rattle.rules.specs.Rows.{row, operand}
 use Rattle.rules.specs.Meaning.{result}
 use Rattle.hull.specs.declared.Bounds.{Bounds}
 use Rattle.hull.specs.Moves.{met}
-use Rattle.hull.specs.Narrowing.{Narrows}
-use Rattle.hull.proofs.Moving.{Ordered, Moved, moved-narrows}
+use Rattle.hull.specs.Narrowing.{shaped, spanOf, Narrows}
+use Rattle.hull.proofs.Moving.{Moved, moved-narrows}
 
 module _ (o : Op) (k : ℕ) (w : Place → ℕ) (t : Bounds) (noB : ¬ T (operand (row o) B)) (noS : ¬ T (operand (row o) S)) (get : ℕ → ℕ) (into : ℕ → ℕ → ℕ) where
   pub record Alone : Type 0 where
@@ -37,5 +37,5 @@ module _ (o : Op) (k : ℕ) (w : Place → ℕ) (t : Bounds) (noB : ¬ T (operan
   }
 
   pub alone-narrows : Alone
-      → Narrows (record { kind = op o; k = k; width = w }) t (met into t (bitOr (t .rl) (get (t .al))) (bitAnd (t .rh) (get (t .ah))))
+      → Narrows (shaped (op o) k w) (spanOf t) (met into t (bitOr (t .rl) (get (t .al))) (bitAnd (t .rh) (get (t .ah))))
   alone-narrows x = moved-narrows o k w t noS (λ a b. get a) into (λ b r. b) (moved x)

@@ -1,6 +1,6 @@
 -- The eight kinds that go by columns, each from what a run of its automaton means: swept, or computed at once where the operands are fixed.
 -- Assumes nothing.
-use mathlib.Core.Path.{_≡_, refl, sym, ap, _∙_}
+use mathlib.Core.Path.{_≡_, refl, sym, _∙_}
 use mathlib.Core.Logic.{_↔_, _≢_}
 use mathlib.Core.Bool.{Bool, true, false, _&&_}
 use Prim.Native.Nat.{ℕ, zero, suc, _+_, _-_, _%_, _^_, _≤_}
@@ -8,19 +8,17 @@ use native.Mathlib.Omega.{arith}
 use lib.Dec.{T, eqb, eqb→eq, eqb·suc-zero}
 use lib.Bits.{bitAnd, and-mask}
 use lib.Pow.{mod-mod-pow}
-use Rattle.words.specs.Bits.{one}
-use Rattle.words.specs.Word.{Width}
-use Rattle.rules.specs.Kinds.{Place, R, A, B, S, Op, AND, OR, XOR, ADD, ITE, Rel, ULE, ULT, NE, Kind, op, rel}
+use Rattle.rules.specs.Kinds.{Place, R, A, B, S, Op, AND, OR, XOR, ADD, ITE, Rel, ULE, ULT, NE, op, rel}
 use Rattle.rules.specs.Rows.{row, operand}
 use Rattle.rules.specs.Meaning.{Shape, result, choose, Holds}
-use Rattle.rules.specs.Fits.{Uses, Legal}
+use Rattle.rules.specs.Fits.{Span, Uses, Legal}
 use Rattle.hull.specs.declared.Bounds.{Bounds}
 use Rattle.hull.specs.declared.Narrowed.{Narrowed}
 use Rattle.hull.specs.declared.Auto.{Auto}
 use Rattle.hull.specs.Runs.{Lane, lane-r, lane-a, lane-b, pick, Runs}
 use Rattle.hull.specs.Automata.{autoOf}
 use Rattle.hull.specs.ByColumns.{framedBy, framedOf, leftOf, sweptOf, fixedIn, valueOf, settled, columnsOf}
-use Rattle.hull.specs.Narrowing.{spanOf, loOf, hiOf, Narrows}
+use Rattle.hull.specs.Narrowing.{shaped, spanOf, loOf, hiOf, Narrows}
 use Rattle.hull.proofs.Bools.{and-left, and-right}
 use Rattle.hull.proofs.Meaning.{Under}
 use Rattle.hull.proofs.Results.{ands, ors, xors, sums, choices}
@@ -31,15 +29,11 @@ use Rattle.hull.proofs.OnlyUsed.{picked}
 use Rattle.hull.proofs.Sweeps.{sweptBy, swept-narrows}
 use Rattle.hull.proofs.Settles.{settled-narrows}
 
--- a rule apart from its words
-abbrev by : Kind → ℕ → (Place → ℕ) → Shape
-by κ k w = record { kind = κ; k = k; width = w }
-
 -- ---- ULE, ULT and NE
 
 module _ (k : ℕ) (w : Place → ℕ) (t : Bounds) where
   compared : (x : Rel) (u : Auto) (begin : Bool) → w A ≡ w B
-      → ((v : Lane → ℕ) → Under (w A) v → Runs u (w A) begin v ↔ Holds (rel x) w k (values begin v)) → ByColumns (by (rel x) k w) t u begin
+      → ((v : Lane → ℕ) → Under (w A) v → Runs u (w A) begin v ↔ Holds (rel x) w k (values begin v)) → ByColumns (shaped (rel x) k w) t u begin
   compared x u begin e means = record {
     use-a = tt;
     use-b = tt;
@@ -48,22 +42,22 @@ module _ (k : ℕ) (w : Place → ℕ) (t : Bounds) where
     means = λ q is. rw (is (λ used. used)) means;
   }
     where
-      level : (p : Lane) → Uses (by (rel x) k w) (place p) → w (place p) ≡ w A
+      level : (p : Lane) → Uses (shaped (rel x) k w) (place p) → w (place p) ≡ w A
       level lane-r used = absurd used
       level lane-a used = refl
       level lane-b used = sym e
 
-  pub ule-narrows : Legal (by (rel ULE) k w) (spanOf t) → Narrows (by (rel ULE) k w) t (columnsOf 12 (w A) t)
+  pub ule-narrows : Legal (shaped (rel ULE) k w) (spanOf t) → Narrows (shaped (rel ULE) k w) (spanOf t) (columnsOf 12 (w A) t)
   unfolding columnsOf sweptOf framedOf leftOf
-  ule-narrows legal = swept-narrows (by (rel ULE) k w) t (autoOf 12) true (compared ULE (autoOf 12) true (legal .fitting) (ules (w A))) legal
+  ule-narrows legal = swept-narrows (shaped (rel ULE) k w) t (autoOf 12) true (compared ULE (autoOf 12) true (legal .fitting) (ules (w A))) legal
 
-  pub ult-narrows : Legal (by (rel ULT) k w) (spanOf t) → Narrows (by (rel ULT) k w) t (columnsOf 13 (w A) t)
+  pub ult-narrows : Legal (shaped (rel ULT) k w) (spanOf t) → Narrows (shaped (rel ULT) k w) (spanOf t) (columnsOf 13 (w A) t)
   unfolding columnsOf sweptOf framedOf leftOf
-  ult-narrows legal = swept-narrows (by (rel ULT) k w) t (autoOf 13) false (compared ULT (autoOf 13) false (legal .fitting) (ults (w A))) legal
+  ult-narrows legal = swept-narrows (shaped (rel ULT) k w) t (autoOf 13) false (compared ULT (autoOf 13) false (legal .fitting) (ults (w A))) legal
 
-  pub ne-narrows : Legal (by (rel NE) k w) (spanOf t) → Narrows (by (rel NE) k w) t (columnsOf 14 (w A) t)
+  pub ne-narrows : Legal (shaped (rel NE) k w) (spanOf t) → Narrows (shaped (rel NE) k w) (spanOf t) (columnsOf 14 (w A) t)
   unfolding columnsOf sweptOf framedOf leftOf
-  ne-narrows legal = swept-narrows (by (rel NE) k w) t (autoOf 14) false (compared NE (autoOf 14) false (legal .fitting) (nes (w A))) legal
+  ne-narrows legal = swept-narrows (shaped (rel NE) k w) t (autoOf 14) false (compared NE (autoOf 14) false (legal .fitting) (nes (w A))) legal
 
 -- ---- AND, OR, XOR, ADD and ITE
 
@@ -74,23 +68,23 @@ fixed-in t h =
     let s = eqb (t .sl) (t .sh) in
     (eqb→eq _ _ (and-left a b (and-left (a && b) s h)), eqb→eq _ _ (and-right a b (and-left (a && b) s h)), eqb→eq _ _ (and-right (a && b) s h))
 
-either : {σ : Shape} {t : Bounds} (b : Bool) (x y : Narrowed) → Narrows σ t x → (T b → Narrows σ t y) → Narrows σ t (pick b x y)
+either : {σ : Shape} {t : Span} (b : Bool) (x y : Narrowed) → Narrows σ t x → (T b → Narrows σ t y) → Narrows σ t (pick b x y)
 either true x y p q = q tt
 either false x y p q = p
 
 module _ (k : ℕ) (w : Place → ℕ) (t : Bounds) where
   computed : (o : Op) (u : Auto) → T (operand (row o) B) → (w R ≡ w A) × (w R ≡ w B) → (T (operand (row o) S) → w S ≡ 1)
       → ((q : Bool) → (¬ T (operand (row o) S) → q ≡ false) → (v : Lane → ℕ) → Under (w A) v → Runs u (w A) q v ↔ Holds (op o) w k (values q v))
-      → ByColumns (by (op o) k w) t u false
+      → ByColumns (shaped (op o) k w) t u false
   computed o u use-b e one-bit means = record { use-a = tt; use-b = use-b; level = level; one-bit = one-bit; means = means }
     where
-      level : (p : Lane) → Uses (by (op o) k w) (place p) → w (place p) ≡ w A
+      level : (p : Lane) → Uses (shaped (op o) k w) (place p) → w (place p) ≡ w A
       level lane-r used = e .0
       level lane-a used = refl
       level lane-b used = sym (e .1) ∙ e .0
 
   -- the operands are fixed where the frame's are
-  all-fixed : (o : Op) → T (fixedIn (framedBy true (operand (row o) S) false t)) → (p : Place) → Uses (by (op o) k w) p → p ≢ R → loOf t p ≡ hiOf t p
+  all-fixed : (o : Op) → T (fixedIn (framedBy true (operand (row o) S) false t)) → (p : Place) → Uses (shaped (op o) k w) p → p ≢ R → loOf t p ≡ hiOf t p
   all-fixed o h R used d = absurd (d refl)
   all-fixed o h A used d = fixed-in (framedBy true (operand (row o) S) false t) h .0
   all-fixed o h B used d = fixed-in (framedBy true (operand (row o) S) false t) h .1
@@ -99,21 +93,23 @@ module _ (k : ℕ) (w : Place → ℕ) (t : Bounds) where
       rw (picked c 0 (t .sl) used, picked c 0 (t .sh) used) at (fixed-in (framedBy true c false t) h .2)
 
   -- a kind o, with the number κ, whose value is computed at once where the operands are fixed
-  op-narrows : (o : Op) (u : Auto) (v : ℕ) → ByColumns (by (op o) k w) t u false → Legal (by (op o) k w) (spanOf t)
+  op-narrows : (o : Op) (u : Auto) (v : ℕ) → ByColumns (shaped (op o) k w) t u false → Legal (shaped (op o) k w) (spanOf t)
       → v ≡ result o w k (t .al) (t .bl) (t .sl)
-      → Narrows (by (op o) k w) t (pick (fixedIn (framedBy true (operand (row o) S) false t)) (sweptBy (by (op o) k w) t u false) (settled v t))
+      → Narrows (shaped (op o) k w) (spanOf t)
+      (pick (fixedIn (framedBy true (operand (row o) S) false t)) (sweptBy (shaped (op o) k w) t u false) (settled v t))
   op-narrows o u v x legal says =
-      either (fixedIn (framedBy true (operand (row o) S) false t)) _ _ (swept-narrows (by (op o) k w) t u false x legal) (λ h. settled-narrows o k w t v (all-fixed o h) says)
+      either (fixedIn (framedBy true (operand (row o) S) false t)) _ _ (swept-narrows (shaped (op o) k w) t u false x legal)
+      (λ h. settled-narrows o k w t v (all-fixed o h) says)
 
-  pub and-narrows : Legal (by (op AND) k w) (spanOf t) → Narrows (by (op AND) k w) t (columnsOf 3 (w A) t)
+  pub and-narrows : Legal (shaped (op AND) k w) (spanOf t) → Narrows (shaped (op AND) k w) (spanOf t) (columnsOf 3 (w A) t)
   unfolding columnsOf sweptOf framedOf leftOf valueOf
   and-narrows legal = op-narrows AND (autoOf 3) _ (computed AND (autoOf 3) tt (legal .fitting) (λ used. absurd used) (λ q is. ands (w A) q)) legal refl
 
-  pub or-narrows : Legal (by (op OR) k w) (spanOf t) → Narrows (by (op OR) k w) t (columnsOf 4 (w A) t)
+  pub or-narrows : Legal (shaped (op OR) k w) (spanOf t) → Narrows (shaped (op OR) k w) (spanOf t) (columnsOf 4 (w A) t)
   unfolding columnsOf sweptOf framedOf leftOf valueOf
   or-narrows legal = op-narrows OR (autoOf 4) _ (computed OR (autoOf 4) tt (legal .fitting) (λ used. absurd used) (λ q is. ors (w A) q)) legal refl
 
-  pub xor-narrows : Legal (by (op XOR) k w) (spanOf t) → Narrows (by (op XOR) k w) t (columnsOf 5 (w A) t)
+  pub xor-narrows : Legal (shaped (op XOR) k w) (spanOf t) → Narrows (shaped (op XOR) k w) (spanOf t) (columnsOf 5 (w A) t)
   unfolding columnsOf sweptOf framedOf leftOf valueOf
   xor-narrows legal = op-narrows XOR (autoOf 5) _ (computed XOR (autoOf 5) tt (legal .fitting) (λ used. absurd used) (λ q is. xors (w A) q)) legal refl
 
@@ -123,13 +119,14 @@ module _ (k : ℕ) (w : Place → ℕ) (t : Bounds) where
       let e : 64 - n + n ≡ 64 = omega arith in
       and-mask ((a + b) % 2 ^ 64) n ∙ rw e at (mod-mod-pow (a + b) (64 - n) n)
 
-  pub add-narrows : Legal (by (op ADD) k w) (spanOf t) → Narrows (by (op ADD) k w) t (columnsOf 6 (w A) t)
+  pub add-narrows : Legal (shaped (op ADD) k w) (spanOf t) → Narrows (shaped (op ADD) k w) (spanOf t) (columnsOf 6 (w A) t)
   unfolding columnsOf sweptOf framedOf leftOf valueOf
   add-narrows legal =
       op-narrows ADD (autoOf 6) _ (computed ADD (autoOf 6) tt (legal .fitting) (λ used. absurd used) means) legal
       (rw (legal .fitting .0) (sum-low (w A) (t .al) (t .bl) (legal .width A tt .high)))
     where
-      means : (q : Bool) → (¬ T (operand (row ADD) S) → q ≡ false) → (v : Lane → ℕ) → Under (w A) v → Runs (autoOf 6) (w A) q v ↔ Holds (op ADD) w k (values q v)
+      means : (q : Bool) → (¬ T (operand (row ADD) S) → q ≡ false) → (v : Lane → ℕ) → Under (w A) v
+          → Runs (autoOf 6) (w A) q v ↔ Holds (op ADD) w k (values q v)
       means q is v h =
           let z : v lane-a + v lane-b + 0 ≡ v lane-a + v lane-b = omega arith in
           rw (is (λ used. used), legal .fitting .0, ← z) (sums (w A) false v h)
@@ -138,12 +135,13 @@ module _ (k : ℕ) (w : Place → ℕ) (t : Bounds) where
   choose-pick zero a b = refl
   choose-pick (suc s) a b = rw (eqb·suc-zero s)
 
-  pub ite-narrows : Legal (by (op ITE) k w) (spanOf t) → Narrows (by (op ITE) k w) t (columnsOf 7 (w A) t)
+  pub ite-narrows : Legal (shaped (op ITE) k w) (spanOf t) → Narrows (shaped (op ITE) k w) (spanOf t) (columnsOf 7 (w A) t)
   unfolding columnsOf sweptOf framedOf leftOf valueOf
   ite-narrows legal =
       op-narrows ITE (autoOf 7) _ (computed ITE (autoOf 7) tt (legal .fitting .0, legal .fitting .1) (λ used. legal .fitting .2) means) legal
       (choose-pick (t .sl) (t .al) (t .bl))
     where
-      means : (q : Bool) → (¬ T (operand (row ITE) S) → q ≡ false) → (v : Lane → ℕ) → Under (w A) v → Runs (autoOf 7) (w A) q v ↔ Holds (op ITE) w k (values q v)
+      means : (q : Bool) → (¬ T (operand (row ITE) S) → q ≡ false) → (v : Lane → ℕ) → Under (w A) v
+          → Runs (autoOf 7) (w A) q v ↔ Holds (op ITE) w k (values q v)
       means true is v h = choices (w A) true v h
       means false is v h = choices (w A) false v h

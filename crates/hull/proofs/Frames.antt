@@ -1,34 +1,32 @@
 -- A kind that goes by columns: what the sweep leaves between the bounds of its frame is the hull of the fits at each place that it uses.
 -- Assumes nothing.
-use mathlib.Core.Path.{_≡_, refl, sym, ap, _∙_}
+use mathlib.Core.Path.{_≡_, refl, sym, _∙_}
 use mathlib.Core.Logic.{_↔_}
-use mathlib.Core.Bool.{Bool, true, false, not, _&&_, _||_}
-use Prim.Native.Nat.{ℕ, _^_, _<_}
+use mathlib.Core.Bool.{Bool}
+use Prim.Native.Nat.{ℕ}
 use native.Mathlib.Omega.{arith}
 use lib.Dec.{T}
 use Rattle.words.specs.Bits.{_⊑_, one}
 use Rattle.words.specs.Word.{Bounded}
-use Rattle.words.proofs.Order.{⊑-le, ⊑-low, ⊑-refl, ⊑-antisym, bit-of-zero}
+use Rattle.words.proofs.Order.{⊑-le, ⊑-antisym}
 use Rattle.rules.specs.Kinds.{Place, R, A, B, S}
 use Rattle.rules.specs.Rows.{uses}
 use Rattle.rules.specs.Meaning.{Shape, Holds}
-use Rattle.rules.specs.Fits.{Span, Uses, Legal, Fit, Hull}
+use Rattle.rules.specs.Fits.{Uses, Legal, Fit}
 use Rattle.rules.proofs.Used.{only-used}
 use Rattle.hull.specs.declared.Bounds.{Bounds}
 use Rattle.hull.specs.declared.Auto.{Auto}
 use Rattle.hull.specs.declared.Swept.{Swept}
 use Rattle.hull.specs.Columns.{even, odd, keepIf, sweepOf}
-use Rattle.hull.specs.Runs.{Lane, lane-r, lane-a, lane-b, lo, hi, pick, live, Runs, RunIn}
-use Rattle.hull.specs.ByColumns.{lanesOf, framedBy, leftBy}
-use Rattle.hull.specs.Moves.{decided}
-use Rattle.hull.specs.Narrowing.{spanOf, loOf, hiOf, Narrows}
+use Rattle.hull.specs.Runs.{Lane, lane-r, lane-a, lane-b, lo, hi, pick, Runs, RunIn}
+use Rattle.hull.specs.ByColumns.{lanesOf, framedBy}
+use Rattle.hull.specs.Narrowing.{spanOf, loOf, hiOf}
 use Rattle.hull.proofs.Size.{Below, small-of}
-use Rattle.hull.proofs.Bools.{and-both, and-left, and-right, or-left, or-right, beq-eq}
-use Rattle.hull.proofs.LowBit.{as-bit, one-lt, one-inj, of-even, even-of, odd-of, of-odd}
+use Rattle.hull.proofs.Bools.{beq-eq}
+use Rattle.hull.proofs.LowBit.{as-bit, one-inj, may-be→, may-be←}
 use Rattle.hull.proofs.Meaning.{Under}
-use Rattle.hull.proofs.Decided.{Owed, narrows}
-use Rattle.hull.proofs.OnlyUsed.{kept, picked, unpicked, keep-in, pick-in, keep-bounded, pick-bounded, hull-picked}
-use Rattle.hull.proofs.Tied.{place, values, Spelt, Tied, live-fit, fit-live, lane-hull}
+use Rattle.hull.proofs.OnlyUsed.{kept, picked, unpicked, keep-in, pick-in, keep-bounded, pick-bounded}
+use Rattle.hull.proofs.Tied.{place, values, Spelt, Tied}
 
 module _ (σ : Shape) (t : Bounds) (u : Auto) (begin : Bool) where
   -- what such a kind owes: it reads a and b, columns of one width, and a run of its automaton u means what the kind says;
@@ -73,21 +71,9 @@ module _ (σ : Shape) (t : Bounds) (u : Auto) (begin : Bool) where
     abbrev may-be : Bool → Bool
     may-be q = pick q (even (frame .sl)) (odd (frame .sh))
 
-    between→ : (q : Bool) → T (may-be q) → (frame .sl ⊑ one q) × (one q ⊑ frame .sh)
-    between→ false m =
-        let e : frame .sl ≡ 0 = omega (arith, of-even (frame .sl) m, ⊑-le _ _ (one-bit .under), one-bit .below) in
-        (rw e (⊑-refl 0), rw (← e) (one-bit .under))
-    between→ true m =
-        let e : frame .sh ≡ 1 = omega (arith, of-odd (frame .sh) m, one-bit .below) in
-        (rw (← e) (one-bit .under), rw e (⊑-refl 1))
-
-    between← : (q : Bool) → frame .sl ⊑ one q → one q ⊑ frame .sh → T (may-be q)
-    between← false l h = even-of (frame .sl) (omega (arith, ⊑-low l))
-    between← true l h = odd-of (frame .sh) (omega (arith, ⊑-low h))
-
     begun : (q : Bool) → T (may-be q) → ¬ Uses σ S → q ≡ begin
     begun q m no-use =
-        let (l, h) = between→ q m in
+        let (l, h) = may-be→ one-bit q m in
         let e : one q ≡ one begin = ⊑-antisym (rw (unpicked d (one begin) (t .sh) no-use) at h) (rw (unpicked d (one begin) (t .sl) no-use) at l) in
         beq-eq q begin (one-inj q begin e)
 
@@ -99,11 +85,8 @@ module _ (σ : Shape) (t : Bounds) (u : Auto) (begin : Bool) where
     lane-of f lane-b = f B
 
     spelt : (f : Place → ℕ) → Fit σ (spanOf t) f → Spelt σ u n (even (frame .sl)) (odd (frame .sh)) (lanesOf frame) f
-    spelt f fit = go (as-bit s (omega (arith, ⊑-le _ _ s-to, one-bit .below)))
+    spelt f fit = go (as-bit (pick d (one begin) (f S)) (omega (arith, ⊑-le _ _ s-to, one-bit .below)))
       where
-        s : ℕ
-        s = pick d (one begin) (f S)
-
         s-to : pick d (one begin) (f S) ⊑ frame .sh
         s-to = pick-in d (one begin) (fit .to S)
 
@@ -127,13 +110,13 @@ module _ (σ : Shape) (t : Bounds) (u : Auto) (begin : Bool) where
           state = q;
           begins = m;
           value = lane-of f;
-          run = record { runs = x .means q (begun q m) (lane-of f) below .1 (only-used (σ .kind) (σ .width) (σ .k) f (values q (lane-of f)) all (fit .holds)); from = from; to = to };
+          run = record { runs = x .means q (begun q m) (lane-of f) below .1 holds; from = from; to = to };
           same = same;
           choice = choice;
         }
           where
             m : T (may-be q)
-            m = between← q (rw e at (pick-in d (one begin) (fit .from S))) (rw e at s-to)
+            m = may-be← q (rw e at (pick-in d (one begin) (fit .from S))) (rw e at s-to)
 
             below : Under n (lane-of f)
             below p = omega (arith, ⊑-le _ _ (to p), small p .1)
@@ -147,6 +130,9 @@ module _ (σ : Shape) (t : Bounds) (u : Auto) (begin : Bool) where
             all B used = refl
             all S used = choice used
 
+            holds : Holds (σ .kind) (σ .width) (σ .k) (values q (lane-of f))
+            holds = only-used (σ .kind) (σ .width) (σ .k) f (values q (lane-of f)) all (fit .holds)
+
     fit-of : (q : Bool) (v : Lane → ℕ) → T (may-be q) → RunIn u n q (lanesOf frame) v → Fit σ (spanOf t) (values q v)
     fit-of q v m r = record { from = from; to = to; holds = x .means q (begun q m) v (λ p. omega (arith, ⊑-le _ _ (r .to p), small p .1)) .0 (r .runs) }
       where
@@ -154,13 +140,13 @@ module _ (σ : Shape) (t : Bounds) (u : Auto) (begin : Bool) where
         from R used = rw (kept c (t .rl) used) at (r .from lane-r)
         from A used = r .from lane-a
         from B used = r .from lane-b
-        from S used = rw (picked d (one begin) (t .sl) used) at (between→ q m .0)
+        from S used = rw (picked d (one begin) (t .sl) used) at (may-be→ one-bit q m .0)
 
         to : (p : Place) → Uses σ p → values q v p ⊑ hiOf t p
         to R used = rw (kept c (t .rh) used) at (r .to lane-r)
         to A used = r .to lane-a
         to B used = r .to lane-b
-        to S used = rw (picked d (one begin) (t .sh) used) at (between→ q m .1)
+        to S used = rw (picked d (one begin) (t .sh) used) at (may-be→ one-bit q m .1)
 
     pub tied : Tied σ (spanOf t) u n (even (frame .sl)) (odd (frame .sh)) (lanesOf frame)
     tied = record { small = small; into = spelt; back = fit-of }

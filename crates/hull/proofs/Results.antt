@@ -1,16 +1,16 @@
 -- AND, OR, XOR, ADD and ITE: a run from state q means that r is what the kind computes of a and b; the state is the carry of ADD and the s of ITE.
 -- Assumes nothing.
-use mathlib.Core.Path.{_≡_, refl, sym, ap, ap₂, _∙_}
+use mathlib.Core.Path.{_≡_, refl, ap, ap₂, _∙_}
 use mathlib.Core.Logic.{_↔_}
-use mathlib.Core.Bool.{Bool, true, false, _&&_, _||_, Bool·beq}
+use mathlib.Core.Bool.{Bool, true, false, _&&_, _||_}
 use Prim.Native.Nat.{ℕ, suc, _+_, _*_, _/_, _%_, _^_, _<_, min, max}
 use native.Mathlib.Nat.{pow-suc, mod-one}
 use native.Mathlib.Omega.{arith}
-use lib.Dec.{T, eqb, eqb→eq, lit<}
+use lib.Dec.{eqb, eqb→eq, lit<}
 use lib.Bits.{bitAnd, bitOr, bitXor, differ, and-step, or-step, xor-step}
 use lib.Arith.{mod-mul}
 use lib.Pow.{pow-pos}
-use Rattle.words.specs.Bits.{bit, one}
+use Rattle.words.specs.Bits.{one}
 use Rattle.hull.specs.Columns.{odd}
 use Rattle.hull.specs.Runs.{Lane, lane-r, lane-a, lane-b, ends, pick, Runs}
 use Rattle.hull.specs.Automata.{autoOf, accepts}

@@ -3,25 +3,24 @@
 use mathlib.Core.Path.{_≡_, refl, sym, _∙_}
 use mathlib.Core.Logic.{_≢_}
 use Prim.Native.Nat.{ℕ}
-use native.Mathlib.Omega.{arith}
 use lib.Bits.{bitAnd, bitOr}
 use Rattle.words.specs.Bits.{_⊑_, under}
-use Rattle.words.proofs.Order.{bit-lt, ⊑-refl, ⊑-trans, ⊑-antisym}
-use Rattle.words.proofs.Ops.{bit-and, bit-or, under-sound, under-complete}
+use Rattle.words.proofs.Order.{⊑-refl, ⊑-trans, ⊑-antisym}
+use Rattle.words.proofs.Ops.{under-sound, under-complete}
+use Rattle.words.proofs.Meets.{⊑-or-l, ⊑-or-r, or-⊑, and-⊑-l, and-⊑-r, ⊑-and}
 use Rattle.rules.specs.Kinds.{Place, R, A, B, S, Op, op}
 use Rattle.rules.specs.Meaning.{Shape, result}
-use Rattle.rules.specs.Fits.{Uses, Fit, Hull}
+use Rattle.rules.specs.Fits.{Uses, Fit}
 use Rattle.rules.proofs.Used.{result-used, A≢R, B≢R, S≢R}
-use Rattle.rules.proofs.Hulls.{hull-of-ends}
 use Rattle.hull.specs.declared.Bounds.{Bounds}
 use Rattle.hull.specs.Moves.{withRA}
 use Rattle.hull.specs.ByColumns.{settled}
-use Rattle.hull.specs.Narrowing.{spanOf, loOf, hiOf, Narrows}
-use Rattle.hull.proofs.Decided.{Owed, narrows}
+use Rattle.hull.specs.Narrowing.{shaped, spanOf, loOf, hiOf, Narrows}
+use Rattle.hull.proofs.Decided.{ends-owed, narrows}
 
 module _ (o : Op) (k : ℕ) (w : Place → ℕ) (t : Bounds) (v : ℕ) where
   abbrev σ : Shape
-  σ = record { kind = op o; k = k; width = w }
+  σ = shaped (op o) k w
 
   abbrev l : ℕ
   l = bitOr (t .rl) v
@@ -54,65 +53,50 @@ module _ (o : Op) (k : ℕ) (w : Place → ℕ) (t : Bounds) (v : ℕ) where
         go S used = operand-is S used S≢R
 
     module _ (q : l ⊑ h) where
-      r-low : t .rl ⊑ v
-      r-low = record { bits = λ j. omega (arith, q .bits j, bit-or j (t .rl) v, bit-and j (t .rh) v) }
-
-      r-top : v ⊑ t .rh
-      r-top = record { bits = λ j. omega (arith, q .bits j, bit-or j (t .rl) v, bit-and j (t .rh) v) }
-
       l-is : l ≡ v
-      l-is =
-          ⊑-antisym (record { bits = λ j. omega (arith, q .bits j, bit-and j (t .rh) v) }) (record { bits = λ j. omega (arith, bit-or j (t .rl) v) })
+      l-is = ⊑-antisym (⊑-trans q (and-⊑-r (t .rh) v)) (⊑-or-r (t .rl) v)
 
       h-is : h ≡ v
-      h-is =
-          ⊑-antisym (record { bits = λ j. omega (arith, bit-and j (t .rh) v) }) (record { bits = λ j. omega (arith, q .bits j, bit-or j (t .rl) v) })
+      h-is = ⊑-antisym (and-⊑-r (t .rh) v) (⊑-trans (⊑-or-r (t .rl) v) q)
 
-      lo-is : (p : Place) → loOf left-over p ≡ only p
-      lo-is R = l-is
-      lo-is A = refl
-      lo-is B = refl
-      lo-is S = refl
-
-      hi-is : (p : Place) → Uses σ p → hiOf left-over p ≡ only p
-      hi-is R used = h-is
-      hi-is A used = sym (fixed A used A≢R)
-      hi-is B used = sym (fixed B used B≢R)
-      hi-is S used = sym (fixed S used S≢R)
+      shows : (p : Place) → Uses σ p → (loOf left-over p ≡ only p) × (hiOf left-over p ≡ only p)
+      shows R used = (l-is, h-is)
+      shows A used = (refl, sym (fixed A used A≢R))
+      shows B used = (refl, sym (fixed B used B≢R))
+      shows S used = (refl, sym (fixed S used S≢R))
 
       only-fit : Fit σ (spanOf t) only
       only-fit = record { from = from; to = to; holds = says }
         where
           from : (p : Place) → Uses σ p → loOf t p ⊑ only p
-          from R used = r-low
+          from R used = ⊑-trans (⊑-or-l (t .rl) v) (⊑-trans q (and-⊑-r (t .rh) v))
           from A used = ⊑-refl _
           from B used = ⊑-refl _
           from S used = ⊑-refl _
 
           to : (p : Place) → Uses σ p → only p ⊑ hiOf t p
-          to R used = r-top
+          to R used = ⊑-trans (⊑-or-r (t .rl) v) (⊑-trans q (and-⊑-l (t .rh) v))
           to A used = rw (fixed A used A≢R) (⊑-refl _)
           to B used = rw (fixed B used B≢R) (⊑-refl _)
           to S used = rw (fixed S used S≢R) (⊑-refl _)
 
-      owed : Owed σ t left-over
-      owed = record { some = (only, only-fit); hull = hull; rest = rest }
-        where
-          hull : (p : Place) → Uses σ p → Hull σ (spanOf t) p (loOf left-over p) (hiOf left-over p)
-          hull p used =
-              rw (lo-is p, hi-is p used)
-              (hull-of-ends p only-fit only-fit (λ f fit. rw (is-only fit p used) (⊑-refl _)) (λ f fit. rw (is-only fit p used) (⊑-refl _)))
-
-          rest : (p : Place) → ¬ Uses σ p → (loOf left-over p ≡ loOf t p) × (hiOf left-over p ≡ hiOf t p)
-          rest R no-use = absurd (no-use tt)
-          rest A no-use = absurd (no-use tt)
-          rest B no-use = (refl, refl)
-          rest S no-use = (refl, refl)
+    rest : (p : Place) → ¬ Uses σ p → (loOf left-over p ≡ loOf t p) × (hiOf left-over p ≡ hiOf t p)
+    rest R no-use = absurd (no-use tt)
+    rest A no-use = absurd (no-use tt)
+    rest B no-use = (refl, refl)
+    rest S no-use = (refl, refl)
 
     fit-under : {f : Place → ℕ} → Fit σ (spanOf t) f → l ⊑ h
-    fit-under {f} fit =
+    fit-under fit =
         let e = is-only fit R tt in
-        record { bits = λ j. omega (arith, bit-or j (t .rl) v, bit-and j (t .rh) v, rw e at (fit .from R tt) .bits j, rw e at (fit .to R tt) .bits j) }
+        let low = rw e at (fit .from R tt) in
+        let top = rw e at (fit .to R tt) in
+        or-⊑ (⊑-and (⊑-trans low top) low) (⊑-and top (⊑-refl v))
 
-    pub settled-narrows : Narrows σ t (settled v t)
-    settled-narrows = narrows σ t left-over (under l h) (λ f fit. under-complete l h (fit-under fit)) (λ b. owed (under-sound l h b))
+    pub settled-narrows : Narrows σ (spanOf t) (settled v t)
+    settled-narrows =
+        narrows σ t left-over (under l h) (λ f fit. under-complete l h (fit-under fit))
+        (λ b.
+        (let q = under-sound l h b in
+        ends-owed (only-fit q) (only-fit q)
+        (λ f fit p used. (rw (is-only fit p used) (⊑-refl _), rw (is-only fit p used) (⊑-refl _))) (shows q) rest))

@@ -2,10 +2,11 @@
 -- Assumes nothing.
 use mathlib.Core.Path.{_≡_, refl, sym, _∙_}
 use mathlib.Core.Bool.{Bool, true, false}
+use Prim.Native.Nat.{ℕ}
 use Rattle.rules.specs.Kinds.{Place, R, A, B, S}
 use Rattle.rules.specs.Rows.{uses}
 use Rattle.rules.specs.Meaning.{Shape}
-use Rattle.rules.specs.Fits.{Uses}
+use Rattle.rules.specs.Fits.{Span, Uses}
 use Rattle.rules.proofs.Hulls.{one-hull}
 use Rattle.hull.specs.declared.Bounds.{Bounds}
 use Rattle.hull.specs.declared.Narrowed.{Narrowed}
@@ -27,7 +28,7 @@ bounds-path s t h = λ i. record {
 narrowed-path : (o o′ : Narrowed) → o .fit ≡ o′ .fit → o .t ≡ o′ .t → o ≡ o′
 narrowed-path o o′ p q = λ i. record { fit = p i; t = q i }
 
-module _ {σ : Shape} {t : Bounds} {o o′ : Narrowed} (x : Narrows σ t o) (y : Narrows σ t o′) where
+module _ {σ : Shape} {t : Span} {o o′ : Narrowed} (x : Narrows σ t o) (y : Narrows σ t o′) where
   -- a fit is found by both, or by neither
   same-fit : (b b′ : Bool) → o .fit ≡ b → o′ .fit ≡ b′ → b ≡ b′
   same-fit true true e e′ = refl
@@ -35,19 +36,17 @@ module _ {σ : Shape} {t : Bounds} {o o′ : Narrowed} (x : Narrows σ t o) (y :
   same-fit false true e e′ = let (f, fit) = y .some e′ in absurd (x .none e f fit)
   same-fit false false e e′ = refl
 
-  same-place : o .fit ≡ true → (p : Place) (b : Bool) → uses (σ .kind) p ≡ b → (loOf (o .t) p ≡ loOf (o′ .t) p) × (hiOf (o .t) p ≡ hiOf (o′ .t) p)
-  same-place e p true u =
-      let used : Uses σ p = rw u tt in
-      one-hull (x .hull e p used) (y .hull (sym (same-fit (o .fit) (o′ .fit) refl refl) ∙ e) p used)
-  same-place e p false u =
-      let unused : ¬ Uses σ p = λ v. rw u at v in
-      let (l, h) = x .rest p unused in
-      let (l′, h′) = y .rest p unused in
-      (l ∙ sym l′, h ∙ sym h′)
+  fit-same : o .fit ≡ o′ .fit
+  fit-same = same-fit (o .fit) (o′ .fit) refl refl
 
-  same-bounds : (b : Bool) → o .fit ≡ b → o .t ≡ o′ .t
-  same-bounds true e = bounds-path (o .t) (o′ .t) (λ p. same-place e p (uses (σ .kind) p) refl)
-  same-bounds false e = x .kept e ∙ sym (y .kept (sym (same-fit (o .fit) (o′ .fit) refl refl) ∙ e))
+  -- bounds that both left as they were
+  both : {l h l′ h′ m n : ℕ} → (l ≡ m) × (h ≡ n) → (l′ ≡ m) × (h′ ≡ n) → (l ≡ l′) × (h ≡ h′)
+  both (a, b) (c, d) = (a ∙ sym c, b ∙ sym d)
+
+  same-place : (p : Place) (b u : Bool) → o .fit ≡ b → uses (σ .kind) p ≡ u → (loOf (o .t) p ≡ loOf (o′ .t) p) × (hiOf (o .t) p ≡ hiOf (o′ .t) p)
+  same-place p true true e d = let used : Uses σ p = rw d tt in one-hull (x .hull e p used) (y .hull (sym fit-same ∙ e) p used)
+  same-place p true false e d = let unused : ¬ Uses σ p = λ v. rw d at v in both (x .rest p unused) (y .rest p unused)
+  same-place p false u e d = both (x .kept e p) (y .kept (sym fit-same ∙ e) p)
 
   pub one-narrowing : o ≡ o′
-  one-narrowing = narrowed-path o o′ (same-fit (o .fit) (o′ .fit) refl refl) (same-bounds (o .fit) refl)
+  one-narrowing = narrowed-path o o′ fit-same (bounds-path (o .t) (o′ .t) (λ p. same-place p (o .fit) (uses (σ .kind) p) refl refl))

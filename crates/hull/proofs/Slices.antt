@@ -11,16 +11,16 @@ use lib.Pow.{pow-mono, shr-le}
 use Rattle.words.specs.Bits.{bit, _⊑_}
 use Rattle.words.specs.Word.{Bounded}
 use Rattle.words.proofs.Order.{bit-lt, bit-high, bits-ext, ⊑-le}
-use Rattle.words.proofs.Ops.{bit-and, bit-xor, bit-shr}
+use Rattle.words.proofs.Ops.{bit-xor}
+use Rattle.words.proofs.Meets.{and-mono}
 use Rattle.rules.specs.Kinds.{Place, R, A, B, S, Op, COPY, SLICE, SHR, op}
 use Rattle.rules.specs.Rows.{row, operand}
 use Rattle.rules.specs.Meaning.{result}
-use Rattle.rules.specs.Fits.{Legal}
 use Rattle.hull.specs.declared.Bounds.{Bounds}
 use Rattle.hull.specs.Moves.{shlBy, part, intoPart, sliceOf}
-use Rattle.hull.specs.Narrowing.{spanOf, Narrows}
-use Rattle.hull.proofs.Parts.{by-parts, shl-low, shl-at, shl-out, part-at, part-high}
-use Rattle.hull.proofs.Alone.{Alone, alone-narrows}
+use Rattle.hull.specs.Narrowing.{shaped, spanOf, Narrows}
+use Rattle.hull.proofs.Parts.{by-parts, shl-low, shl-at, shl-out, shr-mono, part-at, part-high}
+use Rattle.hull.proofs.Alone.{alone-narrows}
 
 -- ---- the bits of x with n put in
 
@@ -66,14 +66,14 @@ module _ (o : Op) (κ : ℕ) (w : Place → ℕ) (t : Bounds) (noB : ¬ T (opera
       omega (arith, part-at k m (intoPart k m a r) i h, into-out k m a r i (omega arith), q .bits (k + i), l .bits i, part-at k m (t .ah) i h)
   got {a} {r} q l i (no h) g = part-high k m _ i (omega arith) ∙ sym (small l i (omega arith))
 
-  slice-narrows : Narrows (record { kind = op o; k = κ; width = w }) t (sliceOf k m t)
+  slice-narrows : Narrows (shaped (op o) κ w) (spanOf t) (sliceOf k m t)
   unfolding sliceOf
   slice-narrows =
       alone-narrows o κ w t noB noS (part k m) (intoPart k m)
       (record {
         proper = ba .under;
         says = λ {a} b s q. says a b s q ∙ sym (and-mask (a / 2 ^ k) m);
-        get-mono = λ {a} {a′} q l. record { bits = λ i. omega (arith, bit-and i (a / 2 ^ k) (2 ^ m - 1), bit-and i (a′ / 2 ^ k) (2 ^ m - 1), bit-shr a k i, bit-shr a′ k i, q .bits (k + i)) };
+        get-mono = λ q l. and-mono (2 ^ m - 1) (shr-mono k q);
         into-mono = λ {a} {a′} {r} {r′} q g n l. record {
           bits = by-parts (λ j. bit (intoPart k m a r) j ≤ bit (intoPart k m a′ r′) j) k
               (λ j h. omega (arith, into-low k m a r j h, into-low k m a′ r′ j h, q .bits j)) (λ i. mono q n l i (decLt i m) (decLt (k + i) 64));
@@ -90,12 +90,12 @@ module _ (k : ℕ) (w : Place → ℕ) (t : Bounds) (wide : w A ≤ 64) (ba : Bo
   within : (i a : ℕ) → w R ≡ w A → a ⊑ t .ah → a / 2 ^ i % 2 ^ w R ≡ a / 2 ^ i
   within i a e q = mod-eq-of-lt (rw e (omega (arith, shr-le a i, ⊑-le _ _ q, ba .below)))
 
-  pub copy-narrows : w R ≡ w A → Narrows (record { kind = op COPY; k = k; width = w }) t (sliceOf 0 (w R) t)
+  pub copy-narrows : w R ≡ w A → Narrows (shaped (op COPY) k w) (spanOf t) (sliceOf 0 (w R) t)
   copy-narrows e =
       slice-narrows COPY k w t (λ u. u) (λ u. u) 0 (w R) bounds-64 (λ a b s q. sym (within 0 a e q ∙ div-one a))
 
-  pub slice-kind-narrows : Narrows (record { kind = op SLICE; k = k; width = w }) t (sliceOf k (w R) t)
+  pub slice-kind-narrows : Narrows (shaped (op SLICE) k w) (spanOf t) (sliceOf k (w R) t)
   slice-kind-narrows = slice-narrows SLICE k w t (λ u. u) (λ u. u) k (w R) bounds-64 (λ a b s q. refl)
 
-  pub shr-narrows : w R ≡ w A → Narrows (record { kind = op SHR; k = k; width = w }) t (sliceOf k (w R) t)
+  pub shr-narrows : w R ≡ w A → Narrows (shaped (op SHR) k w) (spanOf t) (sliceOf k (w R) t)
   shr-narrows e = slice-narrows SHR k w t (λ u. u) (λ u. u) k (w R) bounds-64 (λ a b s q. sym (within k a e q))

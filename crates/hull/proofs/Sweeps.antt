@@ -1,6 +1,6 @@
 -- A kind that goes by columns: what the sweep leaves of its frame is the hull of the fits at each place that it uses.
 -- Assumes nothing.
-use mathlib.Core.Path.{_≡_, refl}
+use mathlib.Core.Path.{_≡_}
 use mathlib.Core.Bool.{Bool, not, _&&_, _||_}
 use Prim.Native.Nat.{ℕ}
 use lib.Dec.{T}
@@ -45,7 +45,7 @@ module _ (σ : Shape) (t : Bounds) (u : Auto) (begin : Bool) where
   abbrev pub sweptBy : Narrowed
   sweptBy = decided (z || e) (leftBy c d z e w t) t
 
-  pub swept-narrows : ByColumns σ t u begin → Legal σ (spanOf t) → Narrows σ t sweptBy
+  pub swept-narrows : ByColumns σ t u begin → Legal σ (spanOf t) → Narrows σ (spanOf t) sweptBy
   swept-narrows x legal = narrows σ t left-over (z || e) (fit-any (tied σ t u begin x legal)) (λ some. owed some (any-fit (tied σ t u begin x legal) some))
     where
       left-over : Bounds

@@ -1,7 +1,7 @@
--- `hull::columns::settle` meets its contract. Assumes nothing.
+-- `hull::settle::settle` meets its contract. Assumes nothing.
 use borrow.Author.Needs.{needs}
-use Rattle.hull.proofs.columns.settle.Statement.{statement}
-use Rattle.hull.proofs.columns.settle.Tie as tie
+use Rattle.hull.proofs.settle.settle.Statement.{statement}
+use Rattle.hull.proofs.settle.settle.Tie as tie
 
 value-requires : tie.Need-value-requires
 value-requires c κs = search needs

@@ -1,7 +1,7 @@
--- `hull::columns::at_once` meets its contract. Assumes nothing.
+-- `hull::settle::at_once` meets its contract. Assumes nothing.
 use borrow.Author.Needs.{needs}
-use Rattle.hull.proofs.columns.at_once.Statement.{statement}
-use Rattle.hull.proofs.columns.at_once.Tie as tie
+use Rattle.hull.proofs.settle.at_once.Statement.{statement}
+use Rattle.hull.proofs.settle.at_once.Tie as tie
 
 fixed-requires : tie.Need-fixed-requires
 fixed-requires c κs = search needs
