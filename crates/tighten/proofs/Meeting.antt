@@ -5,47 +5,27 @@ use mathlib.Core.Bool.{Bool, true, false, not, _&&_, _||_}
 use mathlib.Core.List.{List}
 use Prim.Native.Nat.{ℕ, _+_, _≤_, _<_}
 use native.Mathlib.Omega.{arith}
-use native.Mathlib.Decide.{ℕ-discrete}
 use lib.Dec.{T, eqb}
 use borrow.Author.Tests.{eqb-true, eqb-false}
 use lib.Bits.{bitAnd, bitOr}
 use lib.ListN.{length, set}
 use lib.Seq.{set-getD}
-use Rattle.words.specs.Bits.{bit, _⊑_, under}
+use Rattle.words.specs.Bits.{_⊑_, under}
 use Rattle.words.specs.Table.{Table, Inside, at}
 use Rattle.words.specs.Count.{openBelow}
-use Rattle.words.proofs.Order.{⊑-trans, bit-lt}
-use Rattle.words.proofs.Ops.{bit-and, bit-or, under-sound, under-complete}
-use Rattle.words.proofs.Tables.{self, inside-trans, table-path}
+use Rattle.words.proofs.Meets.{⊑-or-l, and-⊑-l}
+use Rattle.words.proofs.Ops.{under-sound, under-complete}
+use Rattle.words.proofs.Tables.{self, table-path}
 use Rattle.words.proofs.Falls.{open-less}
 use Rattle.rules.specs.Tightening.{Conflict}
 use Rattle.rules.proofs.Narrowed.{narrowed, narrowed-inside, narrowed-falls}
-use Rattle.rules.proofs.Held.{Held, held-trans, held-narrowed}
+use Rattle.rules.proofs.Held.{Held}
+use Rattle.hull.proofs.WrittenBack.{met-held, met-crossed}
 use Rattle.tighten.specs.declared.Met.{Met}
 use Rattle.tighten.specs.Memory.{tableIn, Outside}
 use Rattle.tighten.specs.Meeting.{State, stored, metBy}
 use Rattle.tighten.proofs.Stepping.{true-false}
 use Rattle.tighten.proofs.Memory.{low-at, high-at, lows, stored-table, outside-trans, outside-stored}
-
--- ---- "or" with the low bound, "and" with the high one
-
-pub ⊑-or-left : (a b : ℕ) → a ⊑ bitOr a b
-⊑-or-left a b = record { bits = λ j. omega (arith, bit-or j a b) }
-
-pub ⊑-or-right : (a b : ℕ) → b ⊑ bitOr a b
-⊑-or-right a b = record { bits = λ j. omega (arith, bit-or j a b) }
-
-pub or-⊑ : {a b c : ℕ} → a ⊑ c → b ⊑ c → bitOr a b ⊑ c
-or-⊑ {a} {b} p q = record { bits = λ j. omega (arith, bit-or j a b, p .bits j, q .bits j) }
-
-pub and-⊑-left : (a b : ℕ) → bitAnd a b ⊑ a
-and-⊑-left a b = record { bits = λ j. omega (arith, bit-and j a b) }
-
-pub and-⊑-right : (a b : ℕ) → bitAnd a b ⊑ b
-and-⊑-right a b = record { bits = λ j. omega (arith, bit-and j a b) }
-
-pub ⊑-and : {a b c : ℕ} → c ⊑ a → c ⊑ b → c ⊑ bitAnd a b
-⊑-and {a} {b} p q = record { bits = λ j. omega (arith, bit-and j a b, p .bits j, q .bits j) }
 
 -- ---- a state on the way from table t
 
@@ -55,10 +35,6 @@ pub record Meeting (P : Table → Type 0) (n : ℕ) (t : Table) (l : List ℕ) (
   pub same : z .met .fit ≡ true → z .met .changed ≡ false → tableIn n (z .memory) ≡ t
   pub less : z .met .fit ≡ true → z .met .changed ≡ true → openBelow n (tableIn n (z .memory)) < openBelow n t
   pub outside : Outside n l (z .memory)
-
-and-true : (a b : Bool) → a && b ≡ true → (a ≡ true) × (b ≡ true)
-and-true true b e = (refl, e)
-and-true false b e = absurd (true-false (sym e))
 
 or-false : (a b : Bool) → a || b ≡ false → (a ≡ false) × (b ≡ false)
 or-false true b e = absurd (true-false e)
@@ -71,7 +47,7 @@ not-false′ false e = absurd (true-false e)
 -- ---- one word
 
 module _ {P : Table → Type 0} (n : ℕ) {t : Table} {l : List ℕ} {z : State} (i a b : ℕ) (below : i < n) (most : n ≤ 32) (room : 64 ≤ length l)
-    (x : Meeting P n t l z) (from : (s : Table) → P s → Inside s t → a ⊑ at (s .lo) i) (to : (s : Table) → P s → Inside s t → at (s .hi) i ⊑ b) where
+    (x : Meeting P n t l z) (kept : (s : Table) → P s → Inside s t → (a ⊑ at (s .lo) i) × (at (s .hi) i ⊑ b)) where
   u : Table
   u = tableIn n (z .memory)
 
@@ -84,21 +60,19 @@ module _ {P : Table → Type 0} (n : ℕ) {t : Table} {l : List ℕ} {z : State}
   changes : Bool
   changes = z .met .changed || (not (eqb (bitOr lo a) lo) || not (eqb (bitAnd hi b) hi))
 
-  -- every table with P inside t keeps to the met bounds
-  low-kept : z .met .fit ≡ true → (s : Table) → P s → Inside s t → bitOr lo a ⊑ at (s .lo) i
-  unfolding lo
-  low-kept e s q p = or-⊑ (rw (low-at n (z .memory) i below) at (x .held e .all s q p .low i)) (from s q p)
+  low-is : at (u .lo) i ≡ lo
+  unfolding u lo
+  low-is = low-at n (z .memory) i below
 
-  high-kept : z .met .fit ≡ true → (s : Table) → P s → Inside s t → at (s .hi) i ⊑ bitAnd hi b
-  unfolding hi
-  high-kept e s q p = ⊑-and (rw (high-at n (z .memory) i below) at (x .held e .all s q p .top i)) (to s q p)
+  high-is : at (u .hi) i ≡ hi
+  unfolding u hi
+  high-is = high-at n (z .memory) i below
 
   -- they cross: there is none
   crossing : z .met .fit ≡ true → under (bitOr lo a) (bitAnd hi b) ≡ false → Conflict P t
-  crossing e f = record {
-    nothing = λ s q p.
-        subst T f (under-complete (bitOr lo a) (bitAnd hi b) (⊑-trans (low-kept e s q p) (⊑-trans (p .mid i) (high-kept e s q p))));
-  }
+  unfolding u
+  crossing e f =
+      met-crossed i a b (x .held e) kept (λ h. subst T f (under-complete (bitOr lo a) (bitAnd hi b) (rw (low-is, high-is) at h)))
 
   module _ (e : z .met .fit ≡ true) (f : under (bitOr lo a) (bitAnd hi b) ≡ true) where
     ok : Inside u u
@@ -107,24 +81,21 @@ module _ {P : Table → Type 0} (n : ℕ) {t : Table} {l : List ℕ} {z : State}
 
     low : at (u .lo) i ⊑ bitOr lo a
     unfolding u lo
-    low = rw (low-at n (z .memory) i below) (⊑-or-left lo a)
+    low = rw low-is (⊑-or-l lo a)
 
     mid : bitOr lo a ⊑ bitAnd hi b
     mid = under-sound (bitOr lo a) (bitAnd hi b) (rw f tt)
 
     top : bitAnd hi b ⊑ at (u .hi) i
     unfolding u hi
-    top = rw (high-at n (z .memory) i below) (and-⊑-left hi b)
+    top = rw high-is (and-⊑-l hi b)
 
     v : Table
     v = narrowed u i (bitOr lo a) (bitAnd hi b)
 
-    met-held : Held P t v
+    v-held : Held P t v
     unfolding v u
-    met-held =
-        held-trans (x .held e)
-        (held-narrowed i (bitOr lo a) (bitAnd hi b) ok low mid top
-        (λ s q p. low-kept e s q (inside-trans p (x .held e .inside))) (λ s q p. high-kept e s q (inside-trans p (x .held e .inside))))
+    v-held = rw (low-is, high-is) at (met-held i a b (x .held e) kept (rw (low-is, high-is) mid))
 
     met-same : changes ≡ false → v ≡ t
     unfolding v u lo hi changes narrowed
@@ -162,7 +133,7 @@ module _ {P : Table → Type 0} (n : ℕ) {t : Table} {l : List ℕ} {z : State}
           → Meeting P n t l (stored (p && q) changes (z .memory) i (bitOr lo a) (bitAnd hi b))
       go true true e f = record {
         none = λ g. absurd (true-false g);
-        held = λ g. rw (stored-table n (z .memory) i (bitOr lo a) (bitAnd hi b) below most) (met-held e f);
+        held = λ g. rw (stored-table n (z .memory) i (bitOr lo a) (bitAnd hi b) below most) (v-held e f);
         same = λ g c. stored-table n (z .memory) i (bitOr lo a) (bitAnd hi b) below most ∙ met-same e f c;
         less = λ g c. rw (stored-table n (z .memory) i (bitOr lo a) (bitAnd hi b) below most) (met-less e f whole c);
         outside = outside-trans (x .outside) (outside-stored n (z .memory) i (bitOr lo a) (bitAnd hi b) below most);
@@ -188,7 +159,7 @@ module _ {P : Table → Type 0} (n : ℕ) {t : Table} {l : List ℕ} {z : State}
 -- ---- looking back: where nothing changed, the bounds met were no narrower
 
 pub met-back : (z : State) (i a b : ℕ) → metBy z i a b .met .fit ≡ true → metBy z i a b .met .changed ≡ false
-    → (z .met .fit ≡ true) × (z .met .changed ≡ false) × (a ⊑ at (z .memory) i) × (at (z .memory) (i + 32) ⊑ b)
+    → (z .met .fit ≡ true) × (z .met .changed ≡ false) × (bitOr (at (z .memory) i) a ≡ at (z .memory) i) × (bitAnd (at (z .memory) (i + 32)) b ≡ at (z .memory) (i + 32))
 unfolding metBy
 met-back z i a b e c = go (z .met .fit) (under lo hi) refl refl e c
   where
@@ -203,12 +174,10 @@ met-back z i a b e c = go (z .met .fit) (under lo hi) refl refl e c
 
     go : (p q : Bool) → z .met .fit ≡ p → under lo hi ≡ q → stored (p && q) changes (z .memory) i lo hi .met .fit ≡ true
         → stored (p && q) changes (z .memory) i lo hi .met .changed ≡ false
-        → (z .met .fit ≡ true) × (z .met .changed ≡ false) × (a ⊑ at (z .memory) i) × (at (z .memory) (i + 32) ⊑ b)
+        → (z .met .fit ≡ true) × (z .met .changed ≡ false) × (bitOr (at (z .memory) i) a ≡ at (z .memory) i) × (bitAnd (at (z .memory) (i + 32)) b ≡ at (z .memory) (i + 32))
     go true true p q e c =
         let (c₁, c₂) = or-false (z .met .changed) _ c in
         let (c₃, c₄) = or-false (not (eqb lo (at (z .memory) i))) _ c₂ in
-        let f : lo ≡ at (z .memory) i = eqb-true _ _ (not-false′ _ c₃) in
-        let g : hi ≡ at (z .memory) (i + 32) = eqb-true _ _ (not-false′ _ c₄) in
-        (p, c₁, rw (← f) (⊑-or-right (at (z .memory) i) a), rw (← g) (and-⊑-right (at (z .memory) (i + 32)) b))
+        (p, c₁, eqb-true _ _ (not-false′ _ c₃), eqb-true _ _ (not-false′ _ c₄))
     go true false p q e c = absurd (true-false (sym e))
     go false q p r e c = absurd (true-false (sym e))

@@ -29,7 +29,6 @@ use Rattle.tighten.specs.Meeting.{State, numbersAt, boundsAt, widthsAt, 
 use Rattle.tighten.specs.Ready.{Ready, Applied}
 use Rattle.tighten.proofs.Memory.{low-at, high-at}
 use Rattle.tighten.proofs.Applying.{ruleOf, begun, applied-stepped, applied-outside}
-use Rattle.tighten.proofs.Applying as applying
 
 -- every kind uses a
 uses-a : (κ : Kind) → T (uses κ A)
@@ -87,14 +86,9 @@ module _ {ws bs l : List ℕ} (ready : Ready ws bs l) (j : ℕ) (listed : j < ru
   )
 
   -- and is one over the table
-  pub narrows : {o : Narrowed} → Narrows (shapeOf (numbersAt bs j .kind) (numbersAt bs j .k) (widthsAt ws (numbersAt bs j))) (boundsAt l (numbersAt bs j)) o
-      → applying.Narrows (widthsOf ws) (tableIn (wordCount ws) l) (ruleAt bs j) o
-  narrows {o} h = record {
-    none = λ e f k. h .none e f (rw (shape-same, span-same) k);
-    some = λ e. let (f, k) = h .some e in (f, rw (shape-same, span-same) at k);
-    hull = λ e p u. rw (shape-same, span-same) at (h .hull e p (subst (λ σ. Uses σ p) (sym shape-same) u));
-    rest = λ p u. let (a, b) = h .rest p (λ v. u (subst (λ σ. Uses σ p) shape-same v)) in (a ∙ ap (λ s. s .lo p) span-same, b ∙ ap (λ s. s .hi p) span-same);
-  }
+  pub narrows : {o : Narrowed} → Narrows (shapeOf (numbersAt bs j .kind) (numbersAt bs j .k) (widthsAt ws (numbersAt bs j))) (spanOf (boundsAt l (numbersAt bs j))) o
+      → Narrows (shape (widthsOf ws) (ruleAt bs j)) (span (tableIn (wordCount ws) l) (ruleAt bs j)) o
+  narrows h = rw (shape-same, span-same) at h
 
 -- ---- the same, of what the code has in its locals
 
@@ -127,12 +121,12 @@ module _ {ws bs l : List ℕ} (ready : Ready ws bs l) (j : ℕ) (listed : j < ru
     pub asked : (0 < x .kind) × (x .kind < 15) × Legal (shapeOf (x .kind) (x .k) w) (spanOf t)
     asked = rw (wide, bounds, read) (askable ready j listed)
 
-    pub applied : (o : Narrowed) → Narrows (shapeOf (x .kind) (x .k) w) t o → (r : Met) (m : List ℕ)
+    pub applied : (o : Narrowed) → Narrows (shapeOf (x .kind) (x .k) w) (spanOf t) o → (r : Met) (m : List ℕ)
         → record { met = r; memory = m } ≡ metAll (record { met = record { fit = o .fit; changed = false }; memory = l }) x (o .t) → Applied ws bs j l m r
     unfolding numbersAt
     applied o h r m e =
         let same : ruleOf x ≡ ruleAt bs j = ap ruleOf read in
-        let n : applying.Narrows (widthsOf ws) (tableIn (wordCount ws) l) (ruleOf x) o = rw same (narrows ready j listed (rw (wide, bounds, read) at h)) in
+        let n : Narrows (shape (widthsOf ws) (ruleOf x)) (span (tableIn (wordCount ws) l) (ruleOf x)) o = rw same (narrows ready j listed (rw (wide, bounds, read) at h)) in
         let whole = proper-inside (ready .table) in
         subst (λ (s : State). Applied ws bs j l (s .memory) (s .met)) (sym e)
         (record {
