@@ -8,7 +8,7 @@ use native.Mathlib.Omega.{arith}
 use lib.Dec.{T, eqb, eqb→eq, eqb·suc-zero}
 use lib.Bits.{bitAnd, and-mask}
 use lib.Pow.{mod-mod-pow}
-use Rattle.rules.specs.Kinds.{Place, R, A, B, S, Op, AND, OR, XOR, ADD, ITE, Rel, ULE, ULT, NE, op, rel}
+use Rattle.rules.specs.Kinds.{Place, R, A, B, S, Op, AND, OR, XOR, ADD, ITE, Rel, ULE, ULT, NE, Kind, op, rel}
 use Rattle.rules.specs.Rows.{row, operand}
 use Rattle.rules.specs.Meaning.{Shape, result, choose, Holds}
 use Rattle.rules.specs.Fits.{Span, Uses, Legal}
@@ -29,6 +29,10 @@ use Rattle.hull.proofs.OnlyUsed.{picked}
 use Rattle.hull.proofs.Sweeps.{sweptBy, swept-narrows}
 use Rattle.hull.proofs.Settles.{settled-narrows}
 
+-- what is computed by columns for kind number n is the hull
+abbrev pub Right : ℕ → (Place → ℕ) → Bounds → Kind → ℕ → Type 0
+Right k w t κ n = Legal (shaped κ k w) (spanOf t) → Narrows (shaped κ k w) (spanOf t) (columnsOf n (w A) t)
+
 -- ---- ULE, ULT and NE
 
 module _ (k : ℕ) (w : Place → ℕ) (t : Bounds) where
@@ -47,15 +51,15 @@ module _ (k : ℕ) (w : Place → ℕ) (t : Bounds) where
       level lane-a used = refl
       level lane-b used = sym e
 
-  pub ule-narrows : Legal (shaped (rel ULE) k w) (spanOf t) → Narrows (shaped (rel ULE) k w) (spanOf t) (columnsOf 12 (w A) t)
+  pub ule-narrows : Right k w t (rel ULE) 12
   unfolding columnsOf sweptOf framedOf leftOf
   ule-narrows legal = swept-narrows (shaped (rel ULE) k w) t (autoOf 12) true (compared ULE (autoOf 12) true (legal .fitting) (ules (w A))) legal
 
-  pub ult-narrows : Legal (shaped (rel ULT) k w) (spanOf t) → Narrows (shaped (rel ULT) k w) (spanOf t) (columnsOf 13 (w A) t)
+  pub ult-narrows : Right k w t (rel ULT) 13
   unfolding columnsOf sweptOf framedOf leftOf
   ult-narrows legal = swept-narrows (shaped (rel ULT) k w) t (autoOf 13) false (compared ULT (autoOf 13) false (legal .fitting) (ults (w A))) legal
 
-  pub ne-narrows : Legal (shaped (rel NE) k w) (spanOf t) → Narrows (shaped (rel NE) k w) (spanOf t) (columnsOf 14 (w A) t)
+  pub ne-narrows : Right k w t (rel NE) 14
   unfolding columnsOf sweptOf framedOf leftOf
   ne-narrows legal = swept-narrows (shaped (rel NE) k w) t (autoOf 14) false (compared NE (autoOf 14) false (legal .fitting) (nes (w A))) legal
 
@@ -92,7 +96,7 @@ module _ (k : ℕ) (w : Place → ℕ) (t : Bounds) where
       let c = operand (row o) S in
       rw (picked c 0 (t .sl) used, picked c 0 (t .sh) used) at (fixed-in (framedBy true c false t) h .2)
 
-  -- a kind o, with the number κ, whose value is computed at once where the operands are fixed
+  -- a kind whose value v is computed at once where the operands are fixed
   op-narrows : (o : Op) (u : Auto) (v : ℕ) → ByColumns (shaped (op o) k w) t u false → Legal (shaped (op o) k w) (spanOf t)
       → v ≡ result o w k (t .al) (t .bl) (t .sl)
       → Narrows (shaped (op o) k w) (spanOf t)
@@ -101,15 +105,15 @@ module _ (k : ℕ) (w : Place → ℕ) (t : Bounds) where
       either (fixedIn (framedBy true (operand (row o) S) false t)) _ _ (swept-narrows (shaped (op o) k w) t u false x legal)
       (λ h. settled-narrows o k w t v (all-fixed o h) says)
 
-  pub and-narrows : Legal (shaped (op AND) k w) (spanOf t) → Narrows (shaped (op AND) k w) (spanOf t) (columnsOf 3 (w A) t)
+  pub and-narrows : Right k w t (op AND) 3
   unfolding columnsOf sweptOf framedOf leftOf valueOf
   and-narrows legal = op-narrows AND (autoOf 3) _ (computed AND (autoOf 3) tt (legal .fitting) (λ used. absurd used) (λ q is. ands (w A) q)) legal refl
 
-  pub or-narrows : Legal (shaped (op OR) k w) (spanOf t) → Narrows (shaped (op OR) k w) (spanOf t) (columnsOf 4 (w A) t)
+  pub or-narrows : Right k w t (op OR) 4
   unfolding columnsOf sweptOf framedOf leftOf valueOf
   or-narrows legal = op-narrows OR (autoOf 4) _ (computed OR (autoOf 4) tt (legal .fitting) (λ used. absurd used) (λ q is. ors (w A) q)) legal refl
 
-  pub xor-narrows : Legal (shaped (op XOR) k w) (spanOf t) → Narrows (shaped (op XOR) k w) (spanOf t) (columnsOf 5 (w A) t)
+  pub xor-narrows : Right k w t (op XOR) 5
   unfolding columnsOf sweptOf framedOf leftOf valueOf
   xor-narrows legal = op-narrows XOR (autoOf 5) _ (computed XOR (autoOf 5) tt (legal .fitting) (λ used. absurd used) (λ q is. xors (w A) q)) legal refl
 
@@ -119,7 +123,7 @@ module _ (k : ℕ) (w : Place → ℕ) (t : Bounds) where
       let e : 64 - n + n ≡ 64 = omega arith in
       and-mask ((a + b) % 2 ^ 64) n ∙ rw e at (mod-mod-pow (a + b) (64 - n) n)
 
-  pub add-narrows : Legal (shaped (op ADD) k w) (spanOf t) → Narrows (shaped (op ADD) k w) (spanOf t) (columnsOf 6 (w A) t)
+  pub add-narrows : Right k w t (op ADD) 6
   unfolding columnsOf sweptOf framedOf leftOf valueOf
   add-narrows legal =
       op-narrows ADD (autoOf 6) _ (computed ADD (autoOf 6) tt (legal .fitting) (λ used. absurd used) means) legal
@@ -135,7 +139,7 @@ module _ (k : ℕ) (w : Place → ℕ) (t : Bounds) where
   choose-pick zero a b = refl
   choose-pick (suc s) a b = rw (eqb·suc-zero s)
 
-  pub ite-narrows : Legal (shaped (op ITE) k w) (spanOf t) → Narrows (shaped (op ITE) k w) (spanOf t) (columnsOf 7 (w A) t)
+  pub ite-narrows : Right k w t (op ITE) 7
   unfolding columnsOf sweptOf framedOf leftOf valueOf
   ite-narrows legal =
       op-narrows ITE (autoOf 7) _ (computed ITE (autoOf 7) tt (legal .fitting .0, legal .fitting .1) (λ used. legal .fitting .2) means) legal

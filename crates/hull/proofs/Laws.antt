@@ -12,7 +12,7 @@ use Rattle.words.proofs.Meets.{⊑-or-r, and-⊑-r}
 use Rattle.words.proofs.Tables.{self}
 use Rattle.rules.specs.Kinds.{Place, kindOf}
 use Rattle.rules.specs.Rows.{uses}
-use Rattle.rules.specs.Fits.{Uses, Hull}
+use Rattle.rules.specs.Fits.{Uses}
 use Rattle.rules.specs.Tight.{Rule, word, shape, span, TightAt}
 use Rattle.rules.specs.Tightening.{Conflict}
 use Rattle.rules.proofs.Hulls.{hull-from, hull-to}
@@ -63,17 +63,22 @@ module _ {P : Table → Type 0} (w : List ℕ) (t : Table) (ρ : Rule) (o : Narr
     pub crossed-conflict : ¬ (l ⊑ h) → Conflict P t
     crossed-conflict = met-crossed i (loOf (o .t) p) (hiOf (o .t) p) held (left-keeps p)
 
--- a table in which writing back changes nothing is tight for the rule
+-- a table that has what is left at each place is tight for the rule
+pub same-tight : (w : List ℕ) (t : Table) (ρ : Rule) (o : Narrowed) → Narrows (shape w ρ) (span t ρ) o → o .fit ≡ true
+    → ((p : Place) → Uses (shape w ρ) p → (loOf (o .t) p ≡ at (t .lo) (word ρ p)) × (hiOf (o .t) p ≡ at (t .hi) (word ρ p))) → TightAt w t ρ
+same-tight w t ρ o x fit same = hull-tight (x .some fit .1) (λ p used. rw (same p used .0, same p used .1) at (x .hull fit p used))
+
+-- so is one in which writing back changes nothing
 pub unchanged-tight : (w : List ℕ) (t : Table) (ρ : Rule) (o : Narrowed) → Narrows (shape w ρ) (span t ρ) o → o .fit ≡ true
     → ((p : Place) → Uses (shape w ρ) p
     → (bitOr (at (t .lo) (word ρ p)) (loOf (o .t) p) ≡ at (t .lo) (word ρ p)) × (bitAnd (at (t .hi) (word ρ p)) (hiOf (o .t) p) ≡ at (t .hi) (word ρ p)))
     → TightAt w t ρ
-unchanged-tight w t ρ o x fit same = hull-tight (x .some fit .1) tight
+unchanged-tight w t ρ o x fit unchanged = same-tight w t ρ o x fit same
   where
-    tight : (p : Place) → Uses (shape w ρ) p → Hull (shape w ρ) (span t ρ) p (at (t .lo) (word ρ p)) (at (t .hi) (word ρ p))
-    tight p used =
+    same : (p : Place) → Uses (shape w ρ) p → (loOf (o .t) p ≡ at (t .lo) (word ρ p)) × (hiOf (o .t) p ≡ at (t .hi) (word ρ p))
+    same p used =
         let h = x .hull fit p used in
-        let (el, eh) = same p used in
-        let low : loOf (o .t) p ⊑ at (t .lo) (word ρ p) = rw el at (⊑-or-r (at (t .lo) (word ρ p)) (loOf (o .t) p)) in
-        let high : at (t .hi) (word ρ p) ⊑ hiOf (o .t) p = rw eh at (and-⊑-r (at (t .hi) (word ρ p)) (hiOf (o .t) p)) in
-        rw (⊑-antisym (hull-from h used) low, ⊑-antisym high (hull-to h used)) h
+        let (el, eh) = unchanged p used in (
+          ⊑-antisym (rw el at (⊑-or-r (at (t .lo) (word ρ p)) (loOf (o .t) p))) (hull-from h used),
+          ⊑-antisym (hull-to h used) (rw eh at (and-⊑-r (at (t .hi) (word ρ p)) (hiOf (o .t) p))),
+        )
