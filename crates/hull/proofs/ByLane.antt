@@ -8,8 +8,9 @@ use lib.Bits.{bitAnd}
 use Rattle.words.specs.Bits.{bit}
 use Rattle.hull.specs.declared.Lanes.{Lanes}
 use Rattle.hull.specs.Columns.{nz, push, halvesOf, widened}
-use Rattle.hull.specs.Runs.{Lane, lane-r, lane-a, lane-b, lo, hi, sel, has}
+use Rattle.hull.specs.Runs.{Lane, lane-r, lane-a, lane-b, lo, hi, has}
 use Rattle.hull.proofs.Bools.{at4, beq-eq}
+use Rattle.hull.proofs.Masks.{col}
 
 -- the columns with the bit b at lane p
 abbrev pub columns : Lane → Bool → ℕ
@@ -20,11 +21,11 @@ columns lane-a true = 204
 columns lane-b false = 85
 columns lane-b true = 170
 
-pub has-columns : (p : Lane) (b x y z : Bool) → has (columns p b) x y z ≡ Bool·beq (sel p x y z) b
+pub has-columns : (p : Lane) (b : Bool) (c : Lane → Bool) → has (columns p b) c ≡ Bool·beq (c p) b
 unfolding bit
-has-columns lane-r b x y z = beq-eq _ _ (at4 (λ b x y z. Bool·beq (has (columns lane-r b) x y z) (Bool·beq x b)) tt b x y z)
-has-columns lane-a b x y z = beq-eq _ _ (at4 (λ b x y z. Bool·beq (has (columns lane-a b) x y z) (Bool·beq y b)) tt b x y z)
-has-columns lane-b b x y z = beq-eq _ _ (at4 (λ b x y z. Bool·beq (has (columns lane-b b) x y z) (Bool·beq z b)) tt b x y z)
+has-columns lane-r b c = beq-eq _ _ (at4 (λ b x y z. Bool·beq (has (columns lane-r b) (col x y z)) (Bool·beq x b)) tt b (c lane-r) (c lane-a) (c lane-b))
+has-columns lane-a b c = beq-eq _ _ (at4 (λ b x y z. Bool·beq (has (columns lane-a b) (col x y z)) (Bool·beq y b)) tt b (c lane-r) (c lane-a) (c lane-b))
+has-columns lane-b b c = beq-eq _ _ (at4 (λ b x y z. Bool·beq (has (columns lane-b b) (col x y z)) (Bool·beq z b)) tt b (c lane-r) (c lane-a) (c lane-b))
 
 pub lo-half : (p : Lane) (w : Lanes) → lo p (halvesOf w) ≡ lo p w / 2
 lo-half lane-r w = refl

@@ -2,10 +2,10 @@
 -- Assumes nothing.
 use mathlib.Core.Path.{_≡_, refl, sym, _∙_}
 use mathlib.Core.Logic.{_↔_, _≢_}
-use mathlib.Core.Bool.{Bool, true, false, _&&_}
+use mathlib.Core.Bool.{Bool, true, false}
 use Prim.Native.Nat.{ℕ, zero, suc, _+_, _-_, _%_, _^_, _≤_}
 use native.Mathlib.Omega.{arith}
-use lib.Dec.{T, eqb, eqb→eq, eqb·suc-zero}
+use lib.Dec.{T, eqb, eqb·suc-zero}
 use lib.Bits.{bitAnd, and-mask}
 use lib.Pow.{mod-mod-pow}
 use Rattle.rules.specs.Kinds.{Place, R, A, B, S, Op, AND, OR, XOR, ADD, ITE, Rel, ULE, ULT, NE, Kind, op, rel}
@@ -19,7 +19,6 @@ use Rattle.hull.specs.Runs.{Lane, lane-r, lane-a, lane-b, pick, Runs}
 use Rattle.hull.specs.Automata.{autoOf}
 use Rattle.hull.specs.ByColumns.{framedBy, framedOf, leftOf, sweptOf, fixedIn, valueOf, settled, columnsOf}
 use Rattle.hull.specs.Narrowing.{shaped, spanOf, loOf, hiOf, Narrows}
-use Rattle.hull.proofs.Bools.{and-left, and-right}
 use Rattle.hull.proofs.Meaning.{Under}
 use Rattle.hull.proofs.Results.{ands, ors, xors, sums, choices}
 use Rattle.hull.proofs.Orders.{ules, ults, nes}
@@ -27,7 +26,7 @@ use Rattle.hull.proofs.Tied.{place, values}
 use Rattle.hull.proofs.Frames.{ByColumns}
 use Rattle.hull.proofs.OnlyUsed.{picked}
 use Rattle.hull.proofs.Sweeps.{sweptBy, swept-narrows}
-use Rattle.hull.proofs.Settles.{settled-narrows}
+use Rattle.hull.proofs.Settles.{fixed-in, settled-narrows}
 
 -- what is computed by columns for kind number n is the hull
 abbrev pub Right : ℕ → (Place → ℕ) → Bounds → Kind → ℕ → Type 0
@@ -64,13 +63,6 @@ module _ (k : ℕ) (w : Place → ℕ) (t : Bounds) where
   ne-narrows legal = swept-narrows (shaped (rel NE) k w) t (autoOf 14) false (compared NE (autoOf 14) false (legal .fitting) (nes (w A))) legal
 
 -- ---- AND, OR, XOR, ADD and ITE
-
-fixed-in : (t : Bounds) → T (fixedIn t) → (t .al ≡ t .ah) × (t .bl ≡ t .bh) × (t .sl ≡ t .sh)
-fixed-in t h =
-    let a = eqb (t .al) (t .ah) in
-    let b = eqb (t .bl) (t .bh) in
-    let s = eqb (t .sl) (t .sh) in
-    (eqb→eq _ _ (and-left a b (and-left (a && b) s h)), eqb→eq _ _ (and-right a b (and-left (a && b) s h)), eqb→eq _ _ (and-right (a && b) s h))
 
 either : {σ : Shape} {t : Span} (b : Bool) (x y : Narrowed) → Narrows σ t x → (T b → Narrows σ t y) → Narrows σ t (pick b x y)
 either true x y p q = q tt

@@ -77,8 +77,6 @@ module _ (σ : Shape) (t : Bounds) (u : Auto) (begin : Bool) where
         let e : one q ≡ one begin = ⊑-antisym (rw (unpicked d (one begin) (t .sh) no-use) at h) (rw (unpicked d (one begin) (t .sl) no-use) at l) in
         beq-eq q begin (one-inj q begin e)
 
-    -- ---- the fits are the runs
-
     abbrev lane-of : (Place → ℕ) → Lane → ℕ
     lane-of f lane-r = keepIf c (f R)
     lane-of f lane-a = f A

@@ -2,7 +2,9 @@
 -- Assumes nothing.
 use mathlib.Core.Path.{_≡_, refl, sym, _∙_}
 use mathlib.Core.Logic.{_≢_}
+use mathlib.Core.Bool.{_&&_}
 use Prim.Native.Nat.{ℕ}
+use lib.Dec.{T, eqb, eqb→eq}
 use lib.Bits.{bitAnd, bitOr}
 use Rattle.words.specs.Bits.{_⊑_, under}
 use Rattle.words.proofs.Order.{⊑-refl, ⊑-trans, ⊑-antisym}
@@ -14,9 +16,18 @@ use Rattle.rules.specs.Fits.{Uses, Fit}
 use Rattle.rules.proofs.Used.{result-used, A≢R, B≢R, S≢R}
 use Rattle.hull.specs.declared.Bounds.{Bounds}
 use Rattle.hull.specs.Moves.{withRA}
-use Rattle.hull.specs.ByColumns.{settled}
+use Rattle.hull.specs.ByColumns.{fixedIn, settled}
 use Rattle.hull.specs.Narrowing.{shaped, spanOf, loOf, hiOf, Narrows}
+use Rattle.hull.proofs.Bools.{and-left, and-right}
 use Rattle.hull.proofs.Decided.{ends-owed, narrows}
+
+-- operands that the test finds fixed
+pub fixed-in : (t : Bounds) → T (fixedIn t) → (t .al ≡ t .ah) × (t .bl ≡ t .bh) × (t .sl ≡ t .sh)
+fixed-in t h =
+    let a = eqb (t .al) (t .ah) in
+    let b = eqb (t .bl) (t .bh) in
+    let s = eqb (t .sl) (t .sh) in
+    (eqb→eq _ _ (and-left a b (and-left (a && b) s h)), eqb→eq _ _ (and-right a b (and-left (a && b) s h)), eqb→eq _ _ (and-right (a && b) s h))
 
 module _ (o : Op) (k : ℕ) (w : Place → ℕ) (t : Bounds) (v : ℕ) where
   abbrev σ : Shape

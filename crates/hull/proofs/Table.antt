@@ -9,8 +9,9 @@ use native.Mathlib.Decide.{ℕ-discrete}
 use lib.Dec.{T}
 use lib.ListN.{getD}
 use Rattle.words.specs.Bits.{bit}
-use Rattle.hull.specs.Runs.{mask, has, pick}
+use Rattle.hull.specs.Runs.{Lane, lane-r, lane-a, lane-b, mask, has, pick}
 use Rattle.hull.specs.Automata.{autoOf, steps00, steps01, steps10, steps11, accepts}
+use Rattle.hull.proofs.Masks.{col}
 use Rattle.hull.proofs.Bools.{both, all3, at5, and-left, and-right, beq-eq}
 
 -- A kind as a machine that reads the bits y of a and z of b in state q: the state after them, and whether x may stand at r.
@@ -59,7 +60,7 @@ machine κ =
 -- ---- the test
 
 abbrev right : ℕ → Bool → Bool → Bool → Bool → Bool → Bool
-right κ q q' x y z = Bool·beq (has (mask (autoOf κ) q q') x y z) (Bool·beq q' (machine κ .next q y z) && machine κ .passes q x y z)
+right κ q q' x y z = Bool·beq (has (mask (autoOf κ) q q') (col x y z)) (Bool·beq q' (machine κ .next q y z) && machine κ .passes q x y z)
 
 abbrev tested : ℕ → Bool
 tested κ = both (λ q. both (λ q'. all3 (right κ q q')))
@@ -81,6 +82,6 @@ unfolding autoOf steps00 steps01 steps10 steps11 accepts bit machine
 all-tested = tt
 
 -- a column passes just where it leads to the next state and may stand there
-pub column : (κ : ℕ) → κ < 15 → (q q' x y z : Bool)
-    → has (mask (autoOf κ) q q') x y z ≡ (Bool·beq q' (machine κ .next q y z) && machine κ .passes q x y z)
-column κ h q q' x y z = beq-eq _ _ (at5 (right κ) (below tested 15 all-tested κ h) q q' x y z)
+pub column : (κ : ℕ) → κ < 15 → (q q' : Bool) (c : Lane → Bool)
+    → has (mask (autoOf κ) q q') c ≡ (Bool·beq q' (machine κ .next q (c lane-a) (c lane-b)) && machine κ .passes q (c lane-r) (c lane-a) (c lane-b))
+column κ h q q' c = beq-eq _ _ (at5 (right κ) (below tested 15 all-tested κ h) q q' (c lane-r) (c lane-a) (c lane-b))
