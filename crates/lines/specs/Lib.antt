@@ -1,0 +1,4 @@
+pub mod Text
+pub mod Reading
+pub mod Putting
+pub mod Lists

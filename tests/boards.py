@@ -1,0 +1,183 @@
+#!/usr/bin/env python3
+"""The boards that the program `boards` runs, answered anew from the product's paper and compared with what the program must print.
+
+Reads crates/boards/stdin, computes each answer by going through every fit, and compares with crates/boards/stdout line by line.
+It shares no code and no table with the crates.
+"""
+import itertools
+import sys
+
+STDIN = "crates/boards/stdin"
+STDOUT = "crates/boards/stdout"
+
+# kind: the fields it uses (r a b s k), and what its values must satisfy
+USES = {1: "ra", 2: "ra", 3: "rab", 4: "rab", 5: "rab", 6: "rab", 7: "rabs", 8: "rak", 9: "rab", 10: "rak", 11: "rak", 12: "ab", 13: "ab", 14: "ab"}
+
+
+def holds(kind, v, w, k):
+    """Whether a rule holds for the values v of its places, of widths w."""
+    if kind == 12:
+        return v["a"] <= v["b"]
+    if kind == 13:
+        return v["a"] < v["b"]
+    if kind == 14:
+        return v["a"] != v["b"]
+    return v["r"] == result(kind, v, w, k)
+
+
+def result(kind, v, w, k):
+    """What a computing rule gives at r."""
+    top = 1 << w["r"]
+    a, b = v["a"], v.get("b", 0)
+    if kind == 7:
+        return a if v["s"] == 1 else b
+    return {
+        1: lambda: a,
+        2: lambda: top - 1 - a,
+        3: lambda: a & b,
+        4: lambda: a | b,
+        5: lambda: a ^ b,
+        6: lambda: (a + b) % top,
+        8: lambda: (a >> k) % top,
+        9: lambda: (a << w["b"]) + b,
+        10: lambda: (a << k) % top,
+        11: lambda: a >> k,
+    }[kind]()
+
+
+def fits_widths(kind, w, k):
+    """Whether the widths of a rule's places, and k, fit."""
+    if kind in (1, 2):
+        return w["r"] == w["a"]
+    if kind in (3, 4, 5, 6):
+        return w["r"] == w["a"] == w["b"]
+    if kind == 7:
+        return w["r"] == w["a"] == w["b"] and w["s"] == 1
+    if kind == 8:
+        return k + w["r"] <= w["a"]
+    if kind == 9:
+        return w["r"] == w["a"] + w["b"]
+    if kind in (10, 11):
+        return w["r"] == w["a"] and k <= w["r"] - 1
+    return w["a"] == w["b"]
+
+
+def refusal(words, rules, limit):
+    """The first refusal in the numbered order, or None."""
+    n, m = len(words) // 3, len(rules) // 6
+    if len(words) % 3 or len(rules) % 6 or n > 32 or m > 252:
+        return 1, 0
+    for i in range(n):
+        w, lo, hi = words[3 * i : 3 * i + 3]
+        if not 1 <= w <= 64:
+            return 4, i
+        if lo & ~hi or hi >> w:
+            return 5, i
+    for j in range(m):
+        kind = rules[6 * j]
+        named = dict(zip("rabsk", rules[6 * j + 1 : 6 * j + 6]))
+        if not 1 <= kind <= 14:
+            return 6, j
+        for field, x in named.items():
+            if field in USES[kind]:
+                if field != "k" and x >= n:
+                    return 7, j
+            elif x:
+                return 7, j
+        if not fits_widths(kind, {p: words[3 * named[p]] for p in USES[kind] if p != "k"}, named["k"]):
+            return 8, j
+    if limit > 1000000:
+        return 9, 0
+    return None
+
+
+def between(lo, hi):
+    """All values that keep the fixed bits of two bounds."""
+    free = [1 << j for j in range(64) if (lo ^ hi) >> j & 1]
+    if len(free) > 14:
+        raise ValueError("too many open bits to go through")
+    for chosen in itertools.product((0, 1), repeat=len(free)):
+        yield lo + sum(bit for bit, one in zip(free, chosen) if one)
+
+
+def narrowed(words, rule):
+    """For each place in use the bits that are 0 in some fit and 1 in some fit, as a pair of bounds; None without a fit."""
+    kind, named, k = rule[0], dict(zip("rabs", rule[1:5])), rule[5]
+    places = [p for p in USES[kind] if p != "k"]
+    bounds = {p: tuple(words[3 * named[p] + 1 : 3 * named[p] + 3]) for p in places}
+    widths = {p: words[3 * named[p]] for p in places}
+    operands = [p for p in places if p != "r"]
+    seen = {}
+    for values in itertools.product(*(between(*bounds[p]) for p in operands)):
+        v = dict(zip(operands, values))
+        if "r" in places:
+            v["r"] = result(kind, v, widths, k)
+            lo, hi = bounds["r"]
+            if v["r"] & ~hi or lo & ~v["r"]:
+                continue
+        if not holds(kind, v, widths, k):
+            continue
+        for p in places:
+            low, high = seen.get(p, (v[p], v[p]))
+            seen[p] = (low & v[p], high | v[p])
+    return [(named[p],) + seen[p] for p in places] if seen else None
+
+
+def tightened(words, rules):
+    """The bounds of the widest tight table, or None."""
+    words = list(words)
+    while True:
+        before = list(words)
+        for j in range(len(rules) // 6):
+            places = narrowed(words, rules[6 * j : 6 * j + 6])
+            if places is None:
+                return None
+            for word, low, high in places:
+                words[3 * word + 1] |= low
+                words[3 * word + 2] &= high
+                if words[3 * word + 1] & ~words[3 * word + 2]:
+                    return None
+        if words == before:
+            return words
+
+
+def answer(line):
+    """The line that the program must print for a board."""
+    items = line.split()
+    name, call, first, size = items[0], items[1], int(items[2]), int(items[3])
+    words = [int(x) for x in items[4 : 4 + size]]
+    rules = [int(x) for x in items[5 + size :]]
+    if len(words) != size or len(rules) != int(items[4 + size]):
+        raise ValueError("a board's counts do not fit its numbers: " + line)
+    if call == "check":
+        refused = refusal(words, rules, first)
+        return f"{name} ok" if refused is None else f"{name} refused {refused[0]} {refused[1]}"
+    if call == "tighten":
+        refused = (1, 0) if first < 320 else refusal(words, rules, 0)
+        if refused is not None:
+            return f"{name} refused {refused[0]} {refused[1]}"
+        left = tightened(words, rules)
+        return f"{name} conflict" if left is None else " ".join([name, "tight"] + [str(x) for x in left])
+    raise ValueError("no such call: " + call)
+
+
+def main():
+    passed = failed = 0
+    boards = [line for line in open(STDIN, encoding="ascii") if line.strip() and not line.startswith("#")]
+    printed = open(STDOUT, encoding="ascii").read().splitlines()
+    for line, told in itertools.zip_longest(boards, printed):
+        wanted = answer(line) if line else "nothing"
+        if wanted == told:
+            passed += 1
+        else:
+            failed += 1
+            print(f"{STDOUT}: {told!r}, and the paper says {wanted!r}")
+    if not boards:
+        failed += 1
+        print(f"{STDIN}: no board was found")
+    print(f"{passed} passed, {failed} failed")
+    return 1 if failed else 0
+
+
+if __name__ == "__main__":
+    sys.exit(main())
