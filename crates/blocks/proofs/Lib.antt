@@ -1,0 +1,15 @@
+pub mod Parts
+pub mod Pieces
+pub mod Numbers
+pub mod Seal
+pub mod Sum
+pub mod Block
+pub mod Fair
+pub mod Records
+pub mod Counts
+pub mod InOrder
+pub mod Under
+pub mod Shape
+pub mod Machine
+pub mod Once
+pub mod Faults
