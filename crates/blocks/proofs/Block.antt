@@ -49,7 +49,7 @@ module _ (E : Edition) (kind i c : ℕ) (t : List ℕ) where
   }
 
 -- a list of eight or more, taken apart
-eight : (b : List ℕ) → 8 ≤ length b → b ≡ at b 0 ∷ at b 1 ∷ at b 2 ∷ at b 3 ∷ at b 4 ∷ at b 5 ∷ at b 6 ∷ at b 7 ∷ drop 8 b
+pub eight : (b : List ℕ) → 8 ≤ length b → b ≡ at b 0 ∷ at b 1 ∷ at b 2 ∷ at b 3 ∷ at b 4 ∷ at b 5 ∷ at b 6 ∷ at b 7 ∷ drop 8 b
 eight b h =
     cc (
       drop-cons b 0 0 (omega arith),

@@ -13,3 +13,9 @@ pub mod Shape
 pub mod Machine
 pub mod Once
 pub mod Faults
+pub mod Sequence
+pub mod Files
+pub mod Items
+pub mod Decoded
+pub mod ReadBack
+pub mod WriteBack

@@ -1,6 +1,6 @@
 -- Pieces one after the other, zeros, and numbers added up.
 -- Assumes nothing.
-use mathlib.Core.Path.{_≡_, refl, _∙_}
+use mathlib.Core.Path.{_≡_, refl, sym, ap, _∙_}
 use mathlib.Core.Logic.{_≢_}
 use mathlib.Core.List.{List, [], _∷_, _++_, append-assoc}
 use Prim.Native.Nat.{ℕ, zero, suc, _+_, _*_, _<_}
@@ -55,6 +55,12 @@ part-flat (suc n) k f r h j l =
     go : Dec (j < n) → (j < n → part (flat n f ++ (f n ++ r)) (k * j) k ≡ f j) → part (flat n f ++ (f n ++ r)) (k * j) k ≡ f j
     go (yes l′) ih = ih l′
     go (no l′) ih = let e : j ≡ n = omega arith in rw e (last-flat n k f r h)
+
+-- pieces of one length that make one list are the same
+pub flat-pieces : (n k : ℕ) (f g : ℕ → List ℕ) → ((j : ℕ) → j < n → length (f j) ≡ k) → ((j : ℕ) → j < n → length (g j) ≡ k)
+    → flat n f ≡ flat n g → (j : ℕ) → j < n → f j ≡ g j
+flat-pieces n k f g p q e j h =
+    sym (part-flat n k f [] p j h) ∙ ap (λ t. part (t ++ []) (k * j) k) e ∙ part-flat n k g [] q j h
 
 -- ---- zeros
 

@@ -24,20 +24,19 @@ whole-part : (b : List ℕ) → length b ≡ 512 → part b 8 504 ≡ drop 8 b
 unfolding part
 whole-part b long = take-all 504 (drop 8 b) (simp length-drop (omega arith))
 
-clear-part : (b : List ℕ) (a k : ℕ) → a + k ≤ length b → Clear b a (a + k) → part b a k ≡ zeros k
-clear-part b a k h z =
-    let n = length-part b a k h in
+pub clear-part : (b : List ℕ) (a k e : ℕ) → a + k ≡ e → e ≤ length b → Clear b a e → part b a k ≡ zeros k
+clear-part b a k e q h z =
+    let n = length-part b a k (omega arith) in
     subst (λ m. part b a k ≡ zeros m) n (all-zeros (part b a k) (λ i g. at-part b a k i (omega arith) ∙ z .zero-at (a + i) (omega arith) (omega arith)))
 
 -- so many bytes, and zeros behind them
 rest-is : (b : List ℕ) (k : ℕ) → length b ≡ 512 → k ≤ 504 → Clear b (8 + k) 512 → drop 8 b ≡ part b 8 k ++ zeros (504 - k)
 rest-is b k long h z =
     let e : k + (504 - k) ≡ 504 = omega arith in
-    let f : 8 + k + (504 - k) ≡ 512 = omega arith in
     sym (whole-part b long)
     ∙ ap (part b 8) (sym e)
     ∙ part-add b 8 k (504 - k)
-    ∙ ap (λ t. part b 8 k ++ t) (clear-part b (8 + k) (504 - k) (omega arith) (subst (λ m. Clear b (8 + k) m) (sym f) z))
+    ∙ ap (λ t. part b 8 k ++ t) (clear-part b (8 + k) (504 - k) 512 (omega arith) (omega arith) z)
 
 rest-clear : (E : Edition) (b : List ℕ) (kind i c : ℕ) (t : List ℕ) → b ≡ block E kind i c t → Clear b (8 + length t) 512
 rest-clear E b kind i c t e = record { zero-at = λ x lo hi. go x (x - 8 - length t) (omega arith) }

@@ -33,7 +33,7 @@ under-append k l m u v = record { each = λ i. go i (decLt i (length l)) }
     go i (yes h) = rw (List·getD-append l m 0 i h) (u .each i)
     go i (no h) = let e : i ≡ length l + (i - length l) = omega arith in rw (e, getD-append-add l m (i - length l) 0) (v .each (i - length l))
 
-under-zeros : (k n : ℕ) → 0 < k → Under k (zeros n)
+pub under-zeros : (k n : ℕ) → 0 < k → Under k (zeros n)
 under-zeros k n p = record { each = λ i. rw (at-zeros n i) p }
 
 pub under-le : (k x : ℕ) → Under 256 (le k x)

@@ -5,4 +5,5 @@ pub mod Block
 pub mod File
 pub mod Machine
 pub mod Written
+pub mod Decode
 pub mod Promise
