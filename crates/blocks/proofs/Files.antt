@@ -111,7 +111,8 @@ module _ (E : Edition) (fair : Fair E) (w r : ℕ → List ℕ) (n m l : ℕ) (w
   unfolding blocksOf
   under-blocks kind k b c q bytes h u =
       under-flat 256 q _ (omega arith)
-      (λ i g. under-block E kind (b + i) (held k c i) _ (fair .byte) h (under-flat 256 (held k c i) (λ j. bytes (k * i + j)) (omega arith) (λ j g. u (k * i + j))))
+      (λ i g. under-block E kind (b + i) (held k c i) _ (fair .byte) h
+      (under-flat 256 (held k c i) (λ j. bytes (k * i + j)) (omega arith) (λ j g. u (k * i + j))))
 
   under-file : Under 256 (fileOf E w n r m l)
   unfolding fileOf

@@ -19,3 +19,7 @@ pub mod Items
 pub mod Decoded
 pub mod ReadBack
 pub mod WriteBack
+pub mod Passed
+pub mod Promise
+pub mod RoundTrip
+pub mod CaseA

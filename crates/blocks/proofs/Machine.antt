@@ -60,7 +60,8 @@ module _ (E : Edition) (fair : Fair E) (f : List ℕ) (u : Under 256 f) where
       let x : blockAt (finished i) i ≡ block E 3 i 0 (le 4 0) = (rw add-zero at there) ∙ part-all (block E 3 i 0 (le 4 0)) 512 last in
       let small = shaped-blocks E fair f (run-shaped E fair f r) in
       let g = run-same E f (finished i) (λ j h. same-part f (finished i) (512 * i) (512 * j) 512 same (omega arith)) r in
-      let bytes = under-append 256 _ _ (under-part 256 f 0 (512 * i) (omega arith) u) (under-block E 3 i 0 (le 4 0) (fair .byte) (omega arith) (under-le 4 0)) in
+      let ending = under-block E 3 i 0 (le 4 0) (fair .byte) (omega arith) (under-le 4 0) in
+      let bytes = under-append 256 _ _ (under-part 256 f 0 (512 * i) (omega arith) u) ending in
       record {
         file = finished i;
         n = n;

@@ -72,7 +72,9 @@ module _ {limit : ℕ} {ws bs : List ℕ} (ok : Storable limit ws bs) where
       item : (x : ℕ) → x < 3 * n → number (part f (slot x) 8) ≡ at ws x
       item x h =
           let e : 3 * (x / 3) + x % 3 ≡ x = omega arith in
-          let t = word-encoded f n (omega (arith, length-encode)) ws (ok .words) (x / 3) (omega arith) (ok .width (x / 3)) (there (x / 3) (omega arith)) (x % 3) (omega arith) in
+          let j = x / 3 in
+          let h′ : j < n = omega arith in
+          let t = word-encoded f n (omega (arith, length-encode)) ws (ok .words) j h′ (ok .width j) (there j h′) (x % 3) (omega arith) in
           subst (λ y. number (part f (slot y) 8) ≡ at ws y) e t
 
   pub rules-back : rulesIn (encode edition1 limit ws bs) n m ≡ bs

@@ -23,12 +23,13 @@ pub record Sound (b : List ℕ) : Type 0 where
 pub record Clear (b : List ℕ) (from to : ℕ) : Type 0 where
   pub zero-at : (x : ℕ) → from ≤ x → x < to → at b x ≡ 0
 
--- c records, one or more and at most a full block's, after the eight bytes of the header; unused bytes in each and after the last are 0
-pub record Records (F : Form) (c : ℕ) (b : List ℕ) : Type 0 where
+-- c records of so many bytes, one or more and at most a full block's, after the eight bytes of the header; in each, the bytes from `used` to the eighth
+-- are 0, and so are all bytes after the last record
+pub record Records (size used most c : ℕ) (b : List ℕ) : Type 0 where
   pub some : 0 < c
-  pub fits : c ≤ F .most
-  pub gaps : (j : ℕ) → j < c → Clear b (8 + F .size * j + F .used) (8 + F .size * j + 8)
-  pub rest : Clear b (8 + F .size * c) 512
+  pub fits : c ≤ most
+  pub gaps : (j : ℕ) → j < c → Clear b (8 + size * j + used) (8 + size * j + 8)
+  pub rest : Clear b (8 + size * c) 512
 
 module _ (E : Edition) where
   -- byte 0 is the kind, byte 1 the edition, bytes 2 and 3 the block number, bytes 4 and 5 the record count, and the sum is right
@@ -42,7 +43,7 @@ module _ (E : Edition) where
   -- a block of c records of one form
   pub record RecordBlock (kind : ℕ) (F : Form) (i c : ℕ) (b : List ℕ) : Type 0 where
     pub header : Header kind i c b
-    pub records : Records F c b
+    pub records : Records (F .size) (F .used) (F .most) c b
 
   abbrev pub WordsBlock : ℕ → ℕ → List ℕ → Type 0
   WordsBlock i c b = RecordBlock 1 (E .words) i c b
