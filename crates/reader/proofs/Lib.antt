@@ -1,0 +1,5 @@
+pub mod Deciding
+pub mod Loading
+pub mod Parse
+pub mod Steps
+pub mod Turns
