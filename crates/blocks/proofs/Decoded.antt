@@ -46,7 +46,7 @@ module _ (f : List ℕ) (n : ℕ) (long : 512 * wordBlocks edition1 n ≤ length
       let a = slot (3 * j) in
       let inside = slot-inside (3 * j) (omega arith) in
       let rest = clear-part f (a + 1) 7 (a + 8) (omega arith) (omega arith) z in
-      let e : part f a 8 ≡ at f a ∷ zeros 7 = part-cons f a 7 (omega arith) ∙ ap (λ t. at f a ∷ t) (rw (← add-one) rest) in
+      let e : part f a 8 ≡ at f a ∷ zeros 7 = part-cons f a 7 (omega arith) ∙ ap (λ t. at f a ∷ t) (rw (← add-one a) rest) in
       rw (at-series (3 * n) (λ x. number (part f (slot x) 8)) (3 * j) (omega arith), e) (omega (arith, u .each a))
 
   pub word-decoded : Under 256 f → (j : ℕ) → j < n → widthAt (wordsIn f n) j < 256 → rawAt (edition1 .words) f 0 j ≡ wordRecord (wordsIn f n) j

@@ -68,6 +68,10 @@ module _ {f : List ℕ} {n m l : ℕ} (a : ProperFile edition1 f n m l) where
   after : a .q ≡ ruleBlocks edition1 m
   after = blocks-number edition1 2 (edition1 .rules) (fair1 .rules) f (a .p) (a .q) m (a .rules)
 
+  -- so many blocks are in the file
+  pub proper-room : 512 * (wordBlocks edition1 n + ruleBlocks edition1 m) ≤ length f
+  proper-room = omega (arith, a .long, before, after)
+
   word-gap : (j : ℕ) → j < n → Clear f (slot (3 * j) + 1) (slot (3 * j) + 8)
   word-gap j h =
       let from : 512 * (0 + j / 21) + (8 + 24 * (j % 21) + 1) ≡ slot (3 * j) + 1 = omega arith in

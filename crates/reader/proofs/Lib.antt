@@ -3,3 +3,5 @@ pub mod Loading
 pub mod Parse
 pub mod Steps
 pub mod Turns
+pub mod Stores
+pub mod Keeps

@@ -18,6 +18,12 @@ ghost use Rattle.blocks.specs.Promise.{Room, Reads};
 ghost use Rattle.reader.specs.Tests.{Decides, Gaps, Is};
 ghost use Rattle.reader.specs.Scans.{Stepped, Stands, Turned, Scanned};
 
+// Numbers a word: width, lo, hi.
+const STRIDE: usize = 3;
+
+// Bytes a rule: kind, r, a, b, s, k.
+const FIELDS: usize = 6;
+
 // The numbers of the refusals.
 const SIZE: u64 = 1;
 
@@ -256,4 +262,91 @@ fn scan_file(file: &[u8]) -> Scan
         rules,
         limit,
     })
+}
+
+// The first byte of item x of blocks that follow each other, 63 items of eight bytes to a block.
+fn slot_of(x: usize) -> usize
+    requires { ⌜ x < 4096 ⌝ }
+    ensures { λ r. ⌜ r ≡ slot x ⌝ }
+{
+    512 * (x / 63) + 8 + 8 * (x % 63)
+}
+
+// The numbers of n words, stored in front; the rest stays as it was.
+fn store_words(file: &[u8], out: &mut [u64], n: usize)
+    requires { ⌜ (n ≤ 32) × (stride * n ≤ length (now out)) × (512 * wordBlocks edition1 n ≤ length (now file)) ⌝ }
+    ensures { λ _. ⌜ now (out .exit) ≡ put (now (out .entry)) 0 (wordsIn (now (file .entry)) n) ⌝ }
+{
+    let mut x = 0;
+    while x < STRIDE * n {
+        out[x] = load(file, slot_of(x), 8);
+        x += 1;
+    }
+}
+
+// The bytes of m rules, which stand after the blocks of n words, stored in front; the rest stays as it was.
+fn store_rules(file: &[u8], out: &mut [u8], n: usize, m: usize)
+    requires { ⌜
+        (n ≤ 32) × (m ≤ 252) × (fields * m ≤ length (now out)) × (512 * (wordBlocks edition1 n + ruleBlocks edition1 m) ≤ length (now file))
+        ⌝ }
+    ensures { λ _. ⌜ now (out .exit) ≡ put (now (out .entry)) 0 (rulesIn (now (file .entry)) n m) ⌝ }
+{
+    let before = 512 * ((n + 20) / 21);
+    let mut x = 0;
+    while x < FIELDS * m {
+        out[x] = file[before + slot_of(x / FIELDS) + x % FIELDS];
+        x += 1;
+    }
+}
+
+// Refusals 4 to 9 of the problem in a proper file. It is unpacked here, so that nothing lent is written before it is known to be fine.
+fn judge(file: &[u8], n: usize, m: usize, limit: u32) -> Checked
+    requires { ⌜ (n ≤ 32) × (m ≤ 252) × (512 * (wordBlocks edition1 n + ruleBlocks edition1 m) ≤ length (now file)) ⌝ }
+    ensures { λ r. ⌜ r ≡ refusalWith limit (wordsIn (now (file .entry)) n) (rulesIn (now (file .entry)) n m) ⌝ }
+{
+    let mut words = [0u64; 96];
+    let mut rules = [0u8; 1512];
+    store_words(file, &mut words, n);
+    store_rules(file, &mut rules, n, m);
+    let w = STRIDE * n;
+    let r = FIELDS * m;
+    checker::check(&words[..w], &rules[..r], limit)
+}
+
+// The problem in a proper file: its refusal, or its words and rules stored.
+fn keep(file: &[u8], words: &mut [u64], rules: &mut [u8], x: Problem) -> Reading
+    requires { ⌜ Room (now words) (now rules) × ProperFile edition1 (now file) (x .words) (x .rules) (x .limit) ⌝ }
+    ensures { λ r. ⌜
+        Reads edition1 (now (file .entry)) (now (words .entry)) (now (rules .entry)) (now (words .exit)) (now (rules .exit)) r
+        ⌝ }
+{
+    let n = x.words;
+    let m = x.rules;
+    let j = judge(file, n, m, x.limit);
+    if let Checked::Refused(number, place) = j {
+        return Reading::Refused(number, place);
+    }
+    store_words(file, words, n);
+    store_rules(file, rules, n, m);
+    Reading::Ok(x)
+}
+
+// Reads a file into lent words, three numbers each, and lent rules, six bytes each. OK with the counts of words and rules and the limit: only the records
+// read are stored, in front, and the rest stays as it was. Else the number of the first refusal in order and its place, and nothing is altered.
+pub fn read(file: &[u8], words: &mut [u64], rules: &mut [u8]) -> Reading
+    ensures { λ r. ⌜
+        Reads edition1 (now (file .entry)) (now (words .entry)) (now (rules .entry)) (now (words .exit)) (now (rules .exit)) r
+        ⌝ }
+{
+    if words.len() / STRIDE < 32 {
+        return Reading::Refused(SIZE, 0);
+    }
+    if rules.len() / FIELDS < 252 {
+        return Reading::Refused(SIZE, 0);
+    }
+    let s = scan_file(file);
+    match s {
+        Scan::Refused(number, place) => Reading::Refused(number, place),
+        Scan::Whole(x) => keep(file, words, rules, x),
+    }
 }
