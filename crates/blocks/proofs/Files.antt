@@ -45,104 +45,59 @@ proper-bytes E fair {f} {n} {m} {l} a =
     let t = three-parts f (512 * a .p) (512 * a .q) 512 (omega (arith, a .long)) in
     t ∙ rw (k, w, r, x, p, q)
 
--- ---- from the bytes to a proper file
+-- ---- the three parts of a file of records
 
--- records of a form: of one length, their gaps 0, their bytes below 256
-pub record Made (F : Form) (bytes : ℕ → List ℕ) : Type 0 where
-  pub sized : (j : ℕ) → length (bytes j) ≡ F .size
-  pub clear : (j x : ℕ) → F .used ≤ x → x < 8 → at (bytes j) x ≡ 0
-  pub under : (j : ℕ) → Under 256 (bytes j)
+abbrev pub wordsPart : (E : Edition) (w : ℕ → List ℕ) (n : ℕ) → List ℕ
+wordsPart E w n = blocksOf E 1 (E .words .most) 0 n w (wordBlocks E n)
 
-module _ (E : Edition) (fair : Fair E) (w r : ℕ → List ℕ) (n m l : ℕ) (words : Made (E .words) w) (rules : Made (E .rules) r) where
-  abbrev first : List ℕ
-  first = blocksOf E 1 (E .words .most) 0 n w (wordBlocks E n)
+abbrev pub rulesPart : (E : Edition) (n : ℕ) (r : ℕ → List ℕ) (m : ℕ) → List ℕ
+rulesPart E n r m = blocksOf E 2 (E .rules .most) (wordBlocks E n) m r (ruleBlocks E m)
 
-  abbrev second : List ℕ
-  second = blocksOf E 2 (E .rules .most) (wordBlocks E n) m r (ruleBlocks E m)
+abbrev pub endPart : (E : Edition) (n m l : ℕ) → List ℕ
+endPart E n m l = block E 3 (wordBlocks E n + ruleBlocks E m) 0 (le 4 l)
 
-  abbrev third : List ℕ
-  third = block E 3 (wordBlocks E n + ruleBlocks E m) 0 (le 4 l)
+module _ (E : Edition) (fair : Fair E) (w r : ℕ → List ℕ) (n m l : ℕ)
+    (words : (j : ℕ) → length (w j) ≡ E .words .size) (rules : (j : ℕ) → length (r j) ≡ E .rules .size) where
+  length-words : length (wordsPart E w n) ≡ 512 * wordBlocks E n
+  length-words = length-blocksOf E 1 (E .words) (fair .words) 0 n w words (wordBlocks E n)
 
-  length-first : length first ≡ 512 * wordBlocks E n
-  length-first = length-blocksOf E 1 (E .words) (fair .words) 0 n w (words .sized) (wordBlocks E n)
+  length-rules : length (rulesPart E n r m) ≡ 512 * ruleBlocks E m
+  length-rules = length-blocksOf E 2 (E .rules) (fair .rules) (wordBlocks E n) m r rules (ruleBlocks E m)
 
-  length-second : length second ≡ 512 * ruleBlocks E m
-  length-second = length-blocksOf E 2 (E .rules) (fair .rules) (wordBlocks E n) m r (rules .sized) (ruleBlocks E m)
+  length-end : length (endPart E n m l) ≡ 512
+  length-end = length-block E 3 (wordBlocks E n + ruleBlocks E m) 0 (le 4 l) (rw length-le (omega arith))
 
-  length-third : length third ≡ 512
-  length-third = length-block E 3 (wordBlocks E n + ruleBlocks E m) 0 (le 4 l) (rw length-le (omega arith))
-
-  length-both : length (first ++ second) ≡ 512 * (wordBlocks E n + ruleBlocks E m)
-  length-both = length-append first second ∙ omega (arith, length-first, length-second)
+  length-both : length ((wordsPart E w n) ++ (rulesPart E n r m)) ≡ 512 * (wordBlocks E n + ruleBlocks E m)
+  length-both = length-append (wordsPart E w n) (rulesPart E n r m) ∙ omega (arith, length-words, length-rules)
 
   pub length-file : length (fileOf E w n r m l) ≡ 512 * (wordBlocks E n + ruleBlocks E m + 1)
   unfolding fileOf
-  length-file = length-append (first ++ second) third ∙ omega (arith, length-both, length-third)
+  length-file = length-append ((wordsPart E w n) ++ (rulesPart E n r m)) (endPart E n m l) ∙ omega (arith, length-both, length-end)
 
-  pub first-there : part (fileOf E w n r m l) 0 (512 * wordBlocks E n) ≡ first
+  pub first-there : part (fileOf E w n r m l) 0 (512 * wordBlocks E n) ≡ wordsPart E w n
   unfolding fileOf
   first-there =
-      part-left (first ++ second) third 0 (512 * wordBlocks E n) (omega (arith, length-both))
-      ∙ part-left first second 0 (512 * wordBlocks E n) (omega (arith, length-first))
-      ∙ part-all first (512 * wordBlocks E n) length-first
+      part-left ((wordsPart E w n) ++ (rulesPart E n r m)) (endPart E n m l) 0 (512 * wordBlocks E n) (omega (arith, length-both))
+      ∙ part-left (wordsPart E w n) (rulesPart E n r m) 0 (512 * wordBlocks E n) (omega (arith, length-words))
+      ∙ part-all (wordsPart E w n) (512 * wordBlocks E n) length-words
 
-  pub second-there : part (fileOf E w n r m l) (512 * wordBlocks E n) (512 * ruleBlocks E m) ≡ second
+  pub second-there : part (fileOf E w n r m l) (512 * wordBlocks E n) (512 * ruleBlocks E m) ≡ rulesPart E n r m
   unfolding fileOf
   second-there =
-      let e = part-right first second 0 (512 * ruleBlocks E m) (512 * wordBlocks E n) length-first in
-      part-left (first ++ second) third (512 * wordBlocks E n) (512 * ruleBlocks E m) (omega (arith, length-both))
+      let e = part-right (wordsPart E w n) (rulesPart E n r m) 0 (512 * ruleBlocks E m) (512 * wordBlocks E n) length-words in
+      part-left ((wordsPart E w n) ++ (rulesPart E n r m)) (endPart E n m l) (512 * wordBlocks E n) (512 * ruleBlocks E m) (omega (arith, length-both))
       ∙ (rw add-zero at e)
-      ∙ part-all second (512 * ruleBlocks E m) length-second
+      ∙ part-all (rulesPart E n r m) (512 * ruleBlocks E m) length-rules
 
-  pub third-there : blockAt (fileOf E w n r m l) (wordBlocks E n + ruleBlocks E m) ≡ third
+  pub third-there : blockAt (fileOf E w n r m l) (wordBlocks E n + ruleBlocks E m) ≡ endPart E n m l
   unfolding fileOf
   third-there =
-      let e = part-right (first ++ second) third 0 512 (512 * (wordBlocks E n + ruleBlocks E m)) length-both in
-      (rw add-zero at e) ∙ part-all third 512 length-third
+      let e = part-right ((wordsPart E w n) ++ (rulesPart E n r m)) (endPart E n m l) 0 512 (512 * (wordBlocks E n + ruleBlocks E m)) length-both in
+      (rw add-zero at e) ∙ part-all (endPart E n m l) 512 length-end
 
   -- each record stands in its place
   pub word-there : (j : ℕ) → j < n → rawAt (E .words) (fileOf E w n r m l) 0 j ≡ w j
-  word-there = raw-is E 1 (E .words) (fair .words) 0 n (fileOf E w n r m l) (wordBlocks E n) w (words .sized) refl first-there
+  word-there = raw-is E 1 (E .words) (fair .words) 0 n (fileOf E w n r m l) (wordBlocks E n) w words refl first-there
 
   pub rule-there : (j : ℕ) → j < m → rawAt (E .rules) (fileOf E w n r m l) (wordBlocks E n) j ≡ r j
-  rule-there = raw-is E 2 (E .rules) (fair .rules) (wordBlocks E n) m (fileOf E w n r m l) (ruleBlocks E m) r (rules .sized) refl second-there
-
-  under-blocks : (kind k b c q : ℕ) (bytes : ℕ → List ℕ) → kind < 256 → ((j : ℕ) → Under 256 (bytes j)) → Under 256 (blocksOf E kind k b c bytes q)
-  unfolding blocksOf
-  under-blocks kind k b c q bytes h u =
-      under-flat 256 q _ (omega arith)
-      (λ i g. under-block E kind (b + i) (held k c i) _ (fair .byte) h
-      (under-flat 256 (held k c i) (λ j. bytes (k * i + j)) (omega arith) (λ j g. u (k * i + j))))
-
-  under-file : Under 256 (fileOf E w n r m l)
-  unfolding fileOf
-  under-file =
-      under-append 256 (first ++ second) third
-      (under-append 256 first second
-      (under-blocks 1 (E .words .most) 0 n (wordBlocks E n) w (omega arith) (words .under))
-      (under-blocks 2 (E .rules .most) (wordBlocks E n) m (ruleBlocks E m) r (omega arith) (rules .under)))
-      (under-block E 3 (wordBlocks E n + ruleBlocks E m) 0 (le 4 l) (fair .byte) (omega arith) (under-le 4 l))
-
-  pub bytes-proper : n ≤ most-words → m ≤ most-rules → l < 2 ^ 32 → ProperFile E (fileOf E w n r m l) n m l
-  bytes-proper few many small =
-      let enough : wordBlocks E n + ruleBlocks E m + 1 ≤ E .blocks =
-      omega (
-        arith,
-        fair .enough,
-        blocks-rise (E .words .most) (fair .words .some) n most-words few,
-        blocks-rise (E .rules .most) (fair .rules .some) m most-rules many,
-      ) in
-      record {
-        p = wordBlocks E n;
-        q = ruleBlocks E m;
-        bytes = under-file;
-        long = length-file;
-        blocks = enough;
-        words = bytes-blocks E 1 (E .words) (fair .words) 0 n (fileOf E w n r m l) (wordBlocks E n) w (words .sized) refl first-there
-            (words .clear) (omega (arith, fair .few));
-        rules = bytes-blocks E 2 (E .rules) (fair .rules) (wordBlocks E n) m (fileOf E w n r m l) (ruleBlocks E m) r (rules .sized) refl second-there
-            (rules .clear) (omega (arith, fair .few));
-        few = few;
-        many = many;
-        end = block-end E _ (wordBlocks E n + ruleBlocks E m) l (omega (arith, fair .few)) small third-there;
-      }
+  rule-there = raw-is E 2 (E .rules) (fair .rules) (wordBlocks E n) m (fileOf E w n r m l) (ruleBlocks E m) r rules refl second-there

@@ -16,6 +16,7 @@ pub mod Once
 pub mod Faults
 pub mod Sequence
 pub mod Files
+pub mod Made
 pub mod Items
 pub mod Decoded
 pub mod ReadBack

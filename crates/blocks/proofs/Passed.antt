@@ -20,7 +20,7 @@ use Rattle.blocks.specs.Bytes.{Under}
 use Rattle.blocks.specs.Written.{Storable}
 
 module _ (ws bs : List ℕ) where
-  sized-sound : T (sized ws bs) → Sized ws bs
+  pub sized-sound : T (sized ws bs) → Sized ws bs
   unfolding sized
   sized-sound t =
       let (a, t₁) = both (eqb (length ws % stride) 0) _ t in

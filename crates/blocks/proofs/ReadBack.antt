@@ -17,9 +17,17 @@ use Rattle.blocks.proofs.Under.{under-append, under-cons, under-le, und
 use Rattle.blocks.proofs.Fair.{fair1}
 use Rattle.blocks.proofs.Once.{proper-once}
 use Rattle.blocks.proofs.Sequence.{rawAt}
-use Rattle.blocks.proofs.Files.{Made, length-file, bytes-proper, word-there, rule-there}
+use Rattle.blocks.proofs.Files.{length-file, word-there, rule-there}
+use Rattle.blocks.proofs.Made.{Made, bytes-proper}
 use Rattle.blocks.proofs.Items.{series-is}
 use Rattle.blocks.proofs.Decoded.{word-encoded, rule-encoded}
+
+-- whatever the lent numbers are
+pub length-encode : (limit : ℕ) (ws bs : List ℕ)
+    → length (encode edition1 limit ws bs) ≡ 512 * (wordBlocks edition1 (wordCount ws) + ruleBlocks edition1 (ruleCount bs) + 1)
+unfolding encode
+length-encode limit ws bs =
+    length-file edition1 fair1 (wordRecord ws) (ruleRecord bs) (wordCount ws) (ruleCount bs) limit (fair1 .words .sized ws) (fair1 .rules .sized bs)
 
 module _ {limit : ℕ} {ws bs : List ℕ} (ok : Storable limit ws bs) where
   abbrev n : ℕ
@@ -48,10 +56,6 @@ module _ {limit : ℕ} {ws bs : List ℕ} (ok : Storable limit ws bs) where
       byte : (y : ℕ) {l : List ℕ} → Under 256 l → Under 256 (at bs y ∷ l)
       byte y {l} u = under-cons 256 (at bs y) l (ok .rules .each y) u
 
-  pub length-encode : length (encode edition1 limit ws bs) ≡ 512 * (wordBlocks edition1 n + ruleBlocks edition1 m + 1)
-  unfolding encode
-  length-encode = length-file edition1 fair1 (wordRecord ws) (ruleRecord bs) n m limit made-words made-rules
-
   pub written-proper : ProperFile edition1 (encode edition1 limit ws bs) n m limit
   unfolding encode
   written-proper =
@@ -67,14 +71,14 @@ module _ {limit : ℕ} {ws bs : List ℕ} (ok : Storable limit ws bs) where
       f = encode edition1 limit ws bs
 
       there : (j : ℕ) → j < n → rawAt (edition1 .words) f 0 j ≡ wordRecord ws j
-      there = word-there edition1 fair1 (wordRecord ws) (ruleRecord bs) n m limit made-words made-rules
+      there = word-there edition1 fair1 (wordRecord ws) (ruleRecord bs) n m limit (made-words .sized) (made-rules .sized)
 
       item : (x : ℕ) → x < 3 * n → number (part f (slot x) 8) ≡ at ws x
       item x h =
           let e : 3 * (x / 3) + x % 3 ≡ x = omega arith in
           let j = x / 3 in
           let h′ : j < n = omega arith in
-          let t = word-encoded f n (omega (arith, length-encode)) ws (ok .words) j h′ (ok .width j) (there j h′) (x % 3) (omega arith) in
+          let t = word-encoded f n (omega (arith, length-encode limit ws bs)) ws (ok .words) j h′ (ok .width j) (there j h′) (x % 3) (omega arith) in
           subst (λ y. number (part f (slot y) 8) ≡ at ws y) e t
 
   pub rules-back : rulesIn (encode edition1 limit ws bs) n m ≡ bs
@@ -85,12 +89,12 @@ module _ {limit : ℕ} {ws bs : List ℕ} (ok : Storable limit ws bs) where
       f = encode edition1 limit ws bs
 
       there : (j : ℕ) → j < m → rawAt (edition1 .rules) f (wordBlocks edition1 n) j ≡ ruleRecord bs j
-      there = rule-there edition1 fair1 (wordRecord ws) (ruleRecord bs) n m limit made-words made-rules
+      there = rule-there edition1 fair1 (wordRecord ws) (ruleRecord bs) n m limit (made-words .sized) (made-rules .sized)
 
       field : (x : ℕ) → x < 6 * m → at f (512 * wordBlocks edition1 n + slot (x / 6) + x % 6) ≡ at bs x
       field x h =
           let e : 6 * (x / 6) + x % 6 ≡ x = omega arith in
-          rule-encoded f n m (omega (arith, length-encode)) bs (x / 6) (there (x / 6) (omega arith)) (x % 6) (omega arith) ∙ ap (at bs) e
+          rule-encoded f n m (omega (arith, length-encode limit ws bs)) bs (x / 6) (there (x / 6) (omega arith)) (x % 6) (omega arith) ∙ ap (at bs) e
 
 -- a file is that of one problem
 pub one-problem : {limit limit′ : ℕ} {ws bs ws′ bs′ f : List ℕ} → IsFile edition1 limit ws bs f → IsFile edition1 limit′ ws′ bs′ f
