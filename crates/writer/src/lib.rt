@@ -5,14 +5,12 @@ ghost use mathlib.Core.Path.{_≡_};
 ghost use mathlib.Core.List.{[]};
 ghost use Prim.Native.Nat.{_+_, _-_, _*_, _≤_, min};
 ghost use lib.ListN.{length};
-ghost use Rattle.words.specs.Table.{at};
 ghost use Rattle.checker.specs.Lent.{stride, fields, wordCount, ruleCount};
 ghost use Rattle.blocks.specs.Bytes.{le, put, zeros, flat};
-ghost use Rattle.blocks.specs.Records.{wordRecord, ruleRecord};
 ghost use Rattle.blocks.specs.Edition.{edition1};
-ghost use Rattle.blocks.specs.Written.{seal, headed, block, blocksOf, wordBlocks, ruleBlocks, encode, Storable};
+ghost use Rattle.blocks.specs.Written.{seal, headed, block, wordBlocks, ruleBlocks, encode, Storable};
 ghost use Rattle.blocks.specs.Promise.{Writes};
-ghost use Rattle.writer.specs.Items.{Narrow, itemsFrom, rulesFrom, roomFor};
+ghost use Rattle.writer.specs.Items.{Narrow, itemsFrom, rulesFrom, wordsUpTo, rulesUpTo, roomFor};
 
 // Numbers a word: width, lo, hi.
 const STRIDE: usize = 3;
@@ -161,9 +159,7 @@ fn least(a: usize, b: usize) -> usize
 fn write_words(file: &mut [u8], words: &[u64])
     requires { ⌜ Narrow (now words) × (512 * wordBlocks edition1 (wordCount (now words)) ≤ length (now file)) ⌝ }
     ensures { λ _. ⌜
-        now (file .exit)
-        ≡ put (now (file .entry)) 0
-        (blocksOf edition1 1 21 0 (wordCount (now (words .entry))) (wordRecord (now (words .entry))) (wordBlocks edition1 (wordCount (now (words .entry)))))
+        now (file .exit) ≡ put (now (file .entry)) 0 (wordsUpTo (now (words .entry)) (wordBlocks edition1 (wordCount (now (words .entry)))))
         ⌝ }
 {
     let n = words.len() / STRIDE;
@@ -184,8 +180,7 @@ fn write_rules(file: &mut [u8], rules: &[u8], before: usize)
     requires { ⌜ (before ≤ 2) × (ruleCount (now rules) ≤ 252) × (512 * (before + ruleBlocks edition1 (ruleCount (now rules))) ≤ length (now file)) ⌝ }
     ensures { λ _. ⌜
         now (file .exit)
-        ≡ put (now (file .entry)) (512 * before)
-        (blocksOf edition1 2 63 before (ruleCount (now (rules .entry))) (ruleRecord (now (rules .entry))) (ruleBlocks edition1 (ruleCount (now (rules .entry)))))
+        ≡ put (now (file .entry)) (512 * before) (rulesUpTo (now (rules .entry)) before (ruleBlocks edition1 (ruleCount (now (rules .entry)))))
         ⌝ }
 {
     let m = rules.len() / FIELDS;

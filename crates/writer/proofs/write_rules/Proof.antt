@@ -1,22 +1,19 @@
 -- `writer::write_rules` meets its contract: the blocks passed are written. Assumes nothing.
-use mathlib.Core.Path.{_≡_, refl, ap, _∙_}
-use Prim.Native.Nat.{_+_, _-_, _*_, _/_, _≤_}
+use mathlib.Core.Path.{_≡_, refl, _∙_}
+use Prim.Native.Nat.{_+_, _-_, _*_, _≤_}
 use native.Mathlib.Omega.{arith}
 use borrow.Author.Needs.{needs}
 use borrow.Rule.Slice.PartMut.{same-len-mid}
 use lib.ListN.{length}
 use Rattle.blocks.specs.Bytes.{put}
-use Rattle.blocks.specs.Edition.{edition1}
-use Rattle.blocks.specs.Records.{ruleRecord}
-use Rattle.blocks.specs.Written.{blocksFor, blocksOf}
-use Rattle.blocks.proofs.Fair.{fair1}
-use Rattle.writer.proofs.Wrote.{blocks-start, blocks-turn, blocks-end}
+use Rattle.blocks.specs.Written.{blocksFor}
+use Rattle.writer.specs.Items.{rulesUpTo}
+use Rattle.writer.proofs.Wrote.{rules-start, rules-turn, rules-end}
 use Rattle.writer.proofs.write_rules.Statement.{statement}
 use Rattle.writer.proofs.write_rules.Tie as tie
 
 abbrev Inv-loop : tie.InvT-loop
-Inv-loop file₀ rules before m k q₀ file q =
-    (q ≤ k) × (length file ≡ length file₀) × (file ≡ put file₀ (512 * before) (blocksOf edition1 2 63 before m (ruleRecord rules) q))
+Inv-loop file₀ rules before m k q₀ file q = (q ≤ k) × (length file ≡ length file₀) × (file ≡ put file₀ (512 * before) (rulesUpTo rules before q))
 
 abbrev μ-loop : tie.MeasureT-loop
 μ-loop file₀ rules before m k q₀ file q = k - q
@@ -27,9 +24,7 @@ add-k c = search needs
 loop-holds : tie.Need-loop-holds Inv-loop μ-loop
 loop-holds c =
     let a = c .before .before .args in
-    let bs = a .rules .now in
-    let first = 512 * a .before in
-    (search needs, refl, blocks-start 2 (edition1 .rules) (fair1 .rules) (a .before) (length bs / 6) (ruleRecord bs) (fair1 .rules .sized bs) (a .file .now) first)
+    (search needs, refl, rules-start (a .rules .now) (a .file .now) (a .before))
 
 mul-first : tie.Need-mul-first Inv-loop μ-loop
 mul-first c = search needs
@@ -74,15 +69,13 @@ loop-again c =
     let s = c .before .before .before .before .before .before .before .before .before in
     let p = s .pre in
     let b = s .args .before in
-    let bs = s .args .rules .now in
     let l = c .before .before .before .before .before .before .loop in
     let r = c .before .before .rules-block in
-    let m = c .before .before .before .before .least in
     let a = 512 * (b + l .q) in
     let same = same-len-mid a (a + 512 - a) (l .file) (r .last .0) (r .kept .0) in
     let turn =
-    blocks-turn 2 (edition1 .rules) (fair1 .rules) b (length bs / 6) (ruleRecord bs) (fair1 .rules .sized bs) (s .args .file .now) (512 * b) (l .file)
-    (r .last .0) (l .q) a (a + 512) (m .result) (b + l .q) (omega arith) refl (omega (arith, p)) (m .ensures) refl (l .inv .2) (r .ensures) in
+        rules-turn (s .args .rules .now) (s .args .file .now) b (l .file) (r .last .0) (l .q) (c .before .before .before .before .least .result) (omega (arith, p))
+        (c .before .before .before .before .least .ensures) (l .inv .2) (r .ensures) in
     (search needs, same ∙ l .inv .1, turn)
 
 same-length : tie.Need-same-length Inv-loop μ-loop
@@ -92,10 +85,8 @@ returns : tie.Need-returns Inv-loop μ-loop
 unfolding blocksFor
 returns c =
     let a = c .before .before .before .before .args in
-    let bs = a .rules .now in
     let l = c .before .loop in
-    blocks-end 2 (edition1 .rules) (fair1 .rules) (a .before) (length bs / 6) (ruleRecord bs) (fair1 .rules .sized bs) (a .file .now) (512 * a .before) (l .file)
-    (l .q) _ (l .inv .0) (c .loop-test .left) (l .inv .2)
+    rules-end (a .rules .now) (a .file .now) (a .before) (l .file) (l .q) _ (l .inv .0) (c .loop-test .left) (l .inv .2)
 
 pub write-rules-spec : {M : Type 1} → statement M
 write-rules-spec =

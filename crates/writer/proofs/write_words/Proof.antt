@@ -1,22 +1,19 @@
 -- `writer::write_words` meets its contract: the blocks passed are written. Assumes nothing.
-use mathlib.Core.Path.{_≡_, refl, ap, _∙_}
-use Prim.Native.Nat.{_+_, _-_, _*_, _/_, _≤_}
+use mathlib.Core.Path.{_≡_, refl, _∙_}
+use Prim.Native.Nat.{_+_, _-_, _*_, _≤_}
 use native.Mathlib.Omega.{arith}
 use borrow.Author.Needs.{needs}
 use borrow.Rule.Slice.PartMut.{same-len-mid}
 use lib.ListN.{length}
 use Rattle.blocks.specs.Bytes.{put}
-use Rattle.blocks.specs.Edition.{edition1}
-use Rattle.blocks.specs.Records.{wordRecord}
-use Rattle.blocks.specs.Written.{blocksFor, block, blocksOf}
-use Rattle.blocks.proofs.Fair.{fair1}
-use Rattle.writer.proofs.Filled.{words-as-items}
-use Rattle.writer.proofs.Wrote.{blocks-start, blocks-turn, blocks-end}
+use Rattle.blocks.specs.Written.{blocksFor}
+use Rattle.writer.specs.Items.{wordsUpTo}
+use Rattle.writer.proofs.Wrote.{words-start, words-turn, words-end}
 use Rattle.writer.proofs.write_words.Statement.{statement}
 use Rattle.writer.proofs.write_words.Tie as tie
 
 abbrev Inv-loop : tie.InvT-loop
-Inv-loop file₀ words n k q₀ file q = (q ≤ k) × (length file ≡ length file₀) × (file ≡ put file₀ 0 (blocksOf edition1 1 21 0 n (wordRecord words) q))
+Inv-loop file₀ words n k q₀ file q = (q ≤ k) × (length file ≡ length file₀) × (file ≡ put file₀ 0 (wordsUpTo words q))
 
 abbrev μ-loop : tie.MeasureT-loop
 μ-loop file₀ words n k q₀ file q = k - q
@@ -25,10 +22,7 @@ add-k : tie.Need-add-k Inv-loop μ-loop
 add-k c = search needs
 
 loop-holds : tie.Need-loop-holds Inv-loop μ-loop
-loop-holds c =
-    let a = c .before .before .args in
-    let ws = a .words .now in
-    (search needs, refl, blocks-start 1 (edition1 .words) (fair1 .words) 0 (length ws / 3) (wordRecord ws) (fair1 .words .sized ws) (a .file .now) 0)
+loop-holds c = (search needs, refl, words-start (c .before .before .args .words .now) (c .before .before .args .file .now))
 
 mul-first : tie.Need-mul-first Inv-loop μ-loop
 mul-first c = search needs
@@ -69,16 +63,13 @@ unfolding blocksFor
 loop-again c =
     let s = c .before .before .before .before .before .before .before .before .before in
     let p = s .pre .1 in
-    let ws = s .args .words .now in
     let l = c .before .before .before .before .before .before .loop in
     let r = c .before .before .words-block in
-    let m = c .before .before .before .before .least in
     let a = 512 * l .q in
     let same = same-len-mid a (a + 512 - a) (l .file) (r .last .0) (r .kept .0) in
     let turn =
-    blocks-turn 1 (edition1 .words) (fair1 .words) 0 (length ws / 3) (wordRecord ws) (fair1 .words .sized ws) (s .args .file .now) 0 (l .file) (r .last .0)
-    (l .q) a (a + 512) (m .result) (l .q) (omega arith) refl (omega (arith, p)) (m .ensures) (omega arith) (l .inv .2)
-    (r .ensures ∙ ap (block edition1 1 (l .q) (m .result)) (words-as-items ws (21 * l .q) (m .result) (s .pre .0))) in
+        words-turn (s .args .words .now) (s .args .file .now) (s .pre .0) (l .file) (r .last .0) (l .q) (c .before .before .before .before .least .result) (omega (arith, p))
+        (c .before .before .before .before .least .ensures) (l .inv .2) (r .ensures) in
     (search needs, same ∙ l .inv .1, turn)
 
 same-length : tie.Need-same-length Inv-loop μ-loop
@@ -88,10 +79,8 @@ returns : tie.Need-returns Inv-loop μ-loop
 unfolding blocksFor
 returns c =
     let a = c .before .before .before .before .args in
-    let ws = a .words .now in
     let l = c .before .loop in
-    blocks-end 1 (edition1 .words) (fair1 .words) 0 (length ws / 3) (wordRecord ws) (fair1 .words .sized ws) (a .file .now) 0 (l .file) (l .q) _
-    (l .inv .0) (c .loop-test .left) (l .inv .2)
+    words-end (a .words .now) (a .file .now) (l .file) (l .q) _ (l .inv .0) (c .loop-test .left) (l .inv .2)
 
 pub write-words-spec : {M : Type 1} → statement M
 write-words-spec =
