@@ -59,10 +59,10 @@ module _ (E : Edition) (fair : Fair E) (w r : ℕ → List ℕ) (n m l : ℕ) (w
         bytes = under-file;
         long = length-file E fair w r n m l (words .sized) (rules .sized);
         blocks = enough;
-        words = bytes-blocks E 1 (E .words) (fair .words) 0 n file (wordBlocks E n) w (words .sized) refl (first-there E fair w r n m l (words .sized) (rules .sized))
-            (words .clear) (omega (arith, fair .few));
-        rules = bytes-blocks E 2 (E .rules) (fair .rules) (wordBlocks E n) m file (ruleBlocks E m) r (rules .sized) refl (second-there E fair w r n m l (words .sized) (rules .sized))
-            (rules .clear) (omega (arith, fair .few));
+        words = bytes-blocks E 1 (E .words) (fair .words) 0 n file (wordBlocks E n) w (words .sized) refl
+            (first-there E fair w r n m l (words .sized) (rules .sized)) (words .clear) (omega (arith, fair .few));
+        rules = bytes-blocks E 2 (E .rules) (fair .rules) (wordBlocks E n) m file (ruleBlocks E m) r (rules .sized) refl
+            (second-there E fair w r n m l (words .sized) (rules .sized)) (rules .clear) (omega (arith, fair .few));
         few = few;
         many = many;
         end = block-end E _ (wordBlocks E n + ruleBlocks E m) l (omega (arith, fair .few)) small (third-there E fair w r n m l (words .sized) (rules .sized));

@@ -63,7 +63,8 @@ module _ (bs f : List ℕ) (before : ℕ) where
   pub rules-start : f ≡ put f (512 * before) (rulesUpTo bs before 0)
   rules-start = blocks-start 2 (edition1 .rules) (fair1 .rules) before (ruleCount bs) (ruleRecord bs) (fair1 .rules .sized bs) f (512 * before)
 
-  pub rules-turn : (g ys : List ℕ) (q c : ℕ) → 512 * (before + q) + 512 ≤ length f → c ≡ held 63 (ruleCount bs) q → g ≡ put f (512 * before) (rulesUpTo bs before q)
+  pub rules-turn : (g ys : List ℕ) (q c : ℕ) → 512 * (before + q) + 512 ≤ length f → c ≡ held 63 (ruleCount bs) q
+      → g ≡ put f (512 * before) (rulesUpTo bs before q)
       → ys ≡ block edition1 2 (before + q) c (flat c (rulesFrom bs (63 * q)))
       → putMid (512 * (before + q)) (512 * (before + q) + 512 - 512 * (before + q)) g ys ≡ put f (512 * before) (rulesUpTo bs before (q + 1))
   rules-turn g ys q c inside pc pg py =

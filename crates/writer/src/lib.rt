@@ -1,16 +1,21 @@
 // Writing a block file: the room for it, the check of the problem, then block by block. Nothing lent is written unless the answer is OK.
+mod block;
+mod bytes;
+
+use block::end_block;
+use block::rules_block;
+use block::words_block;
 use blocks::Written;
 use checker::Checked;
 ghost use mathlib.Core.Path.{_≡_};
-ghost use mathlib.Core.List.{[]};
-ghost use Prim.Native.Nat.{_+_, _-_, _*_, _≤_, min};
+ghost use Prim.Native.Nat.{_+_, _*_, _≤_, min};
 ghost use lib.ListN.{length};
-ghost use Rattle.checker.specs.Lent.{stride, fields, wordCount, ruleCount};
-ghost use Rattle.blocks.specs.Bytes.{le, put, zeros, flat};
+ghost use Rattle.checker.specs.Lent.{wordCount, ruleCount};
+ghost use Rattle.blocks.specs.Bytes.{put};
 ghost use Rattle.blocks.specs.Edition.{edition1};
-ghost use Rattle.blocks.specs.Written.{seal, headed, block, wordBlocks, ruleBlocks, encode, Storable};
+ghost use Rattle.blocks.specs.Written.{wordBlocks, ruleBlocks, encode, Storable};
 ghost use Rattle.blocks.specs.Promise.{Writes};
-ghost use Rattle.writer.specs.Items.{Narrow, itemsFrom, rulesFrom, wordsUpTo, rulesUpTo, roomFor};
+ghost use Rattle.writer.specs.Items.{Narrow, wordsUpTo, rulesUpTo, roomFor};
 
 // Numbers a word: width, lo, hi.
 const STRIDE: usize = 3;
@@ -25,129 +30,6 @@ const RULES: usize = 63;
 
 // The number of refusal 1.
 const SIZE: u64 = 1;
-
-// The k lowest bytes of x, the lowest first.
-fn put_number(b: &mut [u8], at: usize, k: usize, x: u64)
-    requires { ⌜ at + k ≤ length (now b) ⌝ }
-    ensures { λ _. ⌜ now (b .exit) ≡ put (now (b .entry)) at (le k x) ⌝ }
-{
-    let mut y = x;
-    let mut i = 0;
-    while i < k {
-        b[at + i] = (y % 256) as u8;
-        y = y / 256;
-        i += 1;
-    }
-}
-
-fn put_zeros(b: &mut [u8], at: usize, k: usize)
-    requires { ⌜ at + k ≤ length (now b) ⌝ }
-    ensures { λ _. ⌜ now (b .exit) ≡ put (now (b .entry)) at (zeros k) ⌝ }
-{
-    let mut i = 0;
-    while i < k {
-        b[at + i] = 0;
-        i += 1;
-    }
-}
-
-fn put_bytes(b: &mut [u8], at: usize, xs: &[u8])
-    requires { ⌜ at + length (now xs) ≤ length (now b) ⌝ }
-    ensures { λ _. ⌜ now (b .exit) ≡ put (now (b .entry)) at (now (xs .entry)) ⌝ }
-{
-    let mut i = 0;
-    while i < xs.len() {
-        b[at + i] = xs[i];
-        i += 1;
-    }
-}
-
-// A block's header: kind, edition, number, count, and no check yet.
-fn put_head(b: &mut [u8], kind: u8, i: usize, c: usize)
-    requires { ⌜ 8 ≤ length (now b) ⌝ }
-    ensures { λ _. ⌜ now (b .exit) ≡ put (now (b .entry)) 0 (headed edition1 kind i c []) ⌝ }
-{
-    let head = [
-        kind,
-        1,
-        (i % 256) as u8,
-        (i / 256 % 256) as u8,
-        (c % 256) as u8,
-        (c / 256 % 256) as u8,
-        0,
-        0,
-    ];
-    put_bytes(b, 0, &head);
-}
-
-// Zeros from a place to a block's end, then the check where it makes the sum right.
-fn finish(b: &mut [u8], at: usize)
-    requires { ⌜ (length (now b) ≡ 512) × (at ≤ 512) ⌝ }
-    ensures { λ _. ⌜ now (b .exit) ≡ seal (put (now (b .entry)) at (zeros (512 - at))) ⌝ }
-{
-    put_zeros(b, at, 512 - at);
-    let s = 65535 - blocks::sum_of(b);
-    b[6] = (s % 256) as u8;
-    b[7] = (s / 256) as u8;
-}
-
-// The numbers of c words from word `first` on, each an item of eight bytes, after a block's header.
-fn put_words(b: &mut [u8], words: &[u64], first: usize, c: usize)
-    requires { ⌜ (length (now b) ≡ 512) × (c ≤ 21) × (stride * (first + c) ≤ length (now words)) ⌝ }
-    ensures { λ _. ⌜ now (b .exit) ≡ put (now (b .entry)) 8 (flat (stride * c) (itemsFrom (now (words .entry)) (stride * first))) ⌝ }
-{
-    let mut x = 0;
-    while x < STRIDE * c {
-        put_number(b, 8 + 8 * x, 8, words[STRIDE * first + x]);
-        x += 1;
-    }
-}
-
-// The records of c rules from rule `first` on, six bytes and two zeros each, after a block's header.
-fn put_rules(b: &mut [u8], rules: &[u8], first: usize, c: usize)
-    requires { ⌜ (length (now b) ≡ 512) × (c ≤ 63) × (fields * (first + c) ≤ length (now rules)) ⌝ }
-    ensures { λ _. ⌜ now (b .exit) ≡ put (now (b .entry)) 8 (flat c (rulesFrom (now (rules .entry)) first)) ⌝ }
-{
-    let mut j = 0;
-    while j < c {
-        let o = FIELDS * (first + j);
-        let e = o + FIELDS;
-        let at = 8 + 8 * j;
-        put_bytes(b, at, &rules[o..e]);
-        put_zeros(b, at + 6, 2);
-        j += 1;
-    }
-}
-
-// Block i, whole: c words from word `first` on.
-fn words_block(b: &mut [u8], i: usize, c: usize, words: &[u64], first: usize)
-    requires { ⌜ (length (now b) ≡ 512) × (c ≤ 21) × (stride * (first + c) ≤ length (now words)) ⌝ }
-    ensures { λ _. ⌜ now (b .exit) ≡ block edition1 1 i c (flat (stride * c) (itemsFrom (now (words .entry)) (stride * first))) ⌝ }
-{
-    put_head(b, 1, i, c);
-    put_words(b, words, first, c);
-    finish(b, 8 + 24 * c);
-}
-
-// Block i, whole: c rules from rule `first` on.
-fn rules_block(b: &mut [u8], i: usize, c: usize, rules: &[u8], first: usize)
-    requires { ⌜ (length (now b) ≡ 512) × (c ≤ 63) × (fields * (first + c) ≤ length (now rules)) ⌝ }
-    ensures { λ _. ⌜ now (b .exit) ≡ block edition1 2 i c (flat c (rulesFrom (now (rules .entry)) first)) ⌝ }
-{
-    put_head(b, 2, i, c);
-    put_rules(b, rules, first, c);
-    finish(b, 8 + 8 * c);
-}
-
-// Block i, whole: the end block with the limit.
-fn end_block(b: &mut [u8], i: usize, limit: u32)
-    requires { ⌜ length (now b) ≡ 512 ⌝ }
-    ensures { λ _. ⌜ now (b .exit) ≡ block edition1 3 i 0 (le 4 limit) ⌝ }
-{
-    put_head(b, 3, i, 0);
-    put_number(b, 8, 4, limit as u64);
-    finish(b, 12);
-}
 
 fn least(a: usize, b: usize) -> usize
     ensures { λ r. ⌜ r ≡ min a b ⌝ }

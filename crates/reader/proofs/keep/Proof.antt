@@ -41,8 +41,11 @@ same-length-2 c = search needs
 
 returns-2 : tie.Need-returns-2
 returns-2 c =
-    let s = c .before .before .before .before .before .before .before .before .before .before .before .before .before .before in
-    kept-ok (s .pre .0) (s .pre .1) (c .before .before .before .before .before .before .before .before .before .before .judge .ensures) (c .before .before .before .before .before .before .before .before .enum-told .given .1) (c .before .before .before .before .before .before .store-words .ensures) (c .before .before .store-rules .ensures)
+    let w = c .before .before .before .before .before .before in
+    let j = w .before .before .before .before in
+    let s = j .before .before .before .before in
+    kept-ok (s .pre .0) (s .pre .1) (j .judge .ensures) (w .before .before .enum-told .given .1) (w .store-words .ensures)
+    (c .before .before .store-rules .ensures)
 
 pub keep-spec : {M : Type 1} → statement M
 keep-spec =

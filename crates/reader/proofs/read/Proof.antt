@@ -28,10 +28,14 @@ enum-known-s-2 : tie.Need-enum-known-s-2
 enum-known-s-2 c = search needs
 
 keep-requires : tie.Need-keep-requires
-keep-requires c κs = (roomy (c .before .before .before .before .before .before), of-whole (subst (Scanned _) (c .before .before .before .s2 .given .1) (c .before .before .before .before .before .scan-file .ensures)))
+keep-requires c κs =
+    let f = c .before .before .before .before .before in
+    (roomy (f .before), of-whole (subst (Scanned _) (c .before .before .before .s2 .given .1) (f .scan-file .ensures)))
 
 returns-3 : tie.Need-returns-3
-returns-3 c = scan-refused (roomy (c .before .before .before .before)) (subst (Scanned _) (c .before .s .given .1) (c .before .before .before .scan-file .ensures))
+returns-3 c =
+    let f = c .before .before .before in
+    scan-refused (roomy (f .before)) (subst (Scanned _) (c .before .s .given .1) (f .scan-file .ensures))
 
 same-length : tie.Need-same-length
 same-length c = search needs

@@ -13,9 +13,13 @@ use Rattle.writer.proofs.write.Statement.{statement}
 use Rattle.writer.proofs.write.Tie as tie
 
 -- there is room for the file
-roomy : (c : tie.Else1) → length (encode edition1 (c .before .before .before .before .before .args .limit) (c .before .before .before .before .before .args .words .now) (c .before .before .before .before .before .args .rules .now)) ≤ length (c .before .before .before .before .before .args .file .now)
+abbrev start : tie.Else1 → tie.Start
+start c = c .before .before .before .before .before
+
+roomy : (c : tie.Else1)
+    → length (encode edition1 (start c .args .limit) (start c .args .words .now) (start c .args .rules .now)) ≤ length (start c .args .file .now)
 roomy c =
-    let a = c .before .before .before .before .before .args in
+    let a = start c .args in
     room (a .limit) (a .words .now) (a .rules .now) (a .file .now) (sym (c .before .has-room .ensures) ∙ not-false _ (c .if1 .left))
 
 -- the lent numbers fit their types
@@ -38,13 +42,18 @@ enum-known-x : tie.Need-enum-known-x
 enum-known-x c = search needs
 
 returns-2 : tie.Need-returns-2
-returns-2 c = Writes.refused (roomy (c .before .before .before .before)) (sym (c .before .before .before .check .ensures) ∙ c .before .x .given .1) refl
+returns-2 c =
+    let k = c .before .before .before in
+    Writes.refused (roomy (k .before)) (sym (k .check .ensures) ∙ c .before .x .given .1) refl
 
 enum-told : tie.Need-enum-told
 enum-told c = search needs
 
 write-all-requires : tie.Need-write-all-requires
-write-all-requires c κs = (passed (slices (c .before .before .before .before .before .before .before)) (sym (c .before .before .before .check .ensures) ∙ c .before .enum-told .given .1), roomy (c .before .before .before .before))
+write-all-requires c κs =
+    let k = c .before .before .before in
+    let fine = passed (slices (k .before .before .before .before)) (sym (k .check .ensures) ∙ c .before .enum-told .given .1) in
+    (fine, roomy (k .before))
 
 same-length : tie.Need-same-length
 same-length c = search needs
@@ -52,7 +61,9 @@ same-length c = search needs
 returns-3 : tie.Need-returns-3
 returns-3 c =
     let w = c .before .before .write-all in
-    Writes.ok (roomy (c .before .before .before .before .before .before .before)) (sym (c .before .before .before .before .before .before .check .ensures) ∙ c .before .before .before .before .enum-told .given .1) (w .ensures .0) (w .ensures .1)
+    let e = c .before .before .before .before in
+    let k = e .before .before in
+    Writes.ok (roomy (k .before)) (sym (k .check .ensures) ∙ e .enum-told .given .1) (w .ensures .0) (w .ensures .1)
 
 pub write-spec : {M : Type 1} → statement M
 write-spec =

@@ -71,11 +71,12 @@ loop-again c =
     let b = s .args .before in
     let l = c .before .before .before .before .before .before .loop in
     let r = c .before .before .rules-block in
+    let m = c .before .before .before .before .least in
     let a = 512 * (b + l .q) in
     let same = same-len-mid a (a + 512 - a) (l .file) (r .last .0) (r .kept .0) in
     let turn =
-        rules-turn (s .args .rules .now) (s .args .file .now) b (l .file) (r .last .0) (l .q) (c .before .before .before .before .least .result) (omega (arith, p))
-        (c .before .before .before .before .least .ensures) (l .inv .2) (r .ensures) in
+    rules-turn (s .args .rules .now) (s .args .file .now) b (l .file) (r .last .0) (l .q) (m .result) (omega (arith, p))
+    (m .ensures) (l .inv .2) (r .ensures) in
     (search needs, same ∙ l .inv .1, turn)
 
 same-length : tie.Need-same-length Inv-loop μ-loop

@@ -65,11 +65,12 @@ loop-again c =
     let p = s .pre .1 in
     let l = c .before .before .before .before .before .before .loop in
     let r = c .before .before .words-block in
+    let m = c .before .before .before .before .least in
     let a = 512 * l .q in
     let same = same-len-mid a (a + 512 - a) (l .file) (r .last .0) (r .kept .0) in
     let turn =
-        words-turn (s .args .words .now) (s .args .file .now) (s .pre .0) (l .file) (r .last .0) (l .q) (c .before .before .before .before .least .result) (omega (arith, p))
-        (c .before .before .before .before .least .ensures) (l .inv .2) (r .ensures) in
+    words-turn (s .args .words .now) (s .args .file .now) (s .pre .0) (l .file) (r .last .0) (l .q) (m .result) (omega (arith, p))
+    (m .ensures) (l .inv .2) (r .ensures) in
     (search needs, same ∙ l .inv .1, turn)
 
 same-length : tie.Need-same-length Inv-loop μ-loop
