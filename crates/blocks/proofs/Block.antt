@@ -2,15 +2,15 @@
 -- Assumes nothing.
 use mathlib.Core.Path.{_≡_, refl, sym, ap, _∙_}
 use mathlib.Core.Logic.{_≢_}
-use mathlib.Core.List.{List, [], _∷_, _++_}
+use mathlib.Core.List.{List, _∷_, _++_}
 use Prim.Native.Nat.{ℕ, _+_, _-_, _*_, _/_, _%_, _<_, _≤_}
 use native.Mathlib.Omega.{arith}
-use lib.ListN.{length, drop, length-append, length-set}
+use lib.ListN.{length, drop, length-append}
 use lib.Seq.{drop-cons}
 use Rattle.words.specs.Table.{at}
 use Rattle.blocks.specs.Bytes.{le, zeros, Under}
 use Rattle.blocks.specs.Edition.{Edition}
-use Rattle.blocks.specs.Block.{sixteen, Sound, Header}
+use Rattle.blocks.specs.Block.{Sound, Header}
 use Rattle.blocks.specs.Written.{seal, headed, block}
 use Rattle.blocks.proofs.Pieces.{length-zeros}
 use Rattle.blocks.proofs.Numbers.{low-byte, high-byte}

@@ -1,7 +1,7 @@
 -- The numbers read off a file of edition 1 are those whose records stand there, and no others.
 -- Assumes nothing.
 use mathlib.Core.Path.{_≡_, refl, sym, ap, _∙_}
-use mathlib.Core.List.{List, [], _∷_}
+use mathlib.Core.List.{List, _∷_}
 use Prim.Native.Nat.{ℕ, zero, suc, _+_, _*_, _/_, _%_, _^_, _<_, _≤_}
 use native.Mathlib.Nat.{add-zero}
 use native.Mathlib.Numerals.{add-one}
@@ -13,7 +13,6 @@ use Rattle.blocks.specs.Bytes.{le, number, part, zeros, flat, Under}
 use Rattle.blocks.specs.Records.{ruleBytes, wordRecord, ruleRecord}
 use Rattle.blocks.specs.Edition.{edition1}
 use Rattle.blocks.specs.Block.{Clear}
-use Rattle.blocks.specs.File.{blockAt}
 use Rattle.blocks.specs.Written.{blocksFor, wordBlocks, ruleBlocks}
 use Rattle.blocks.specs.Decode.{slot, wordsIn, rulesIn}
 use Rattle.blocks.proofs.Parts.{at-part, length-part, part-cons, part-part}

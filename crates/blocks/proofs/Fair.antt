@@ -8,7 +8,7 @@ use native.Mathlib.Omega.{arith}
 use lib.ListN.{length, length-append}
 use Rattle.words.specs.Table.{at}
 use Rattle.rules.specs.Tight.{Rule}
-use Rattle.blocks.specs.Bytes.{le, zeros}
+use Rattle.blocks.specs.Bytes.{zeros}
 use Rattle.blocks.specs.Records.{wordBytes, ruleBytes, wordRecord, ruleRecord}
 use Rattle.blocks.specs.Edition.{Form, Edition, edition1}
 use Rattle.blocks.specs.File.{most-words, most-rules}

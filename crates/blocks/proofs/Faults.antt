@@ -1,12 +1,11 @@
 -- A file has at most one fault, and a proper file has none.
 -- Assumes nothing.
-use mathlib.Core.Path.{_≡_, refl, sym, ap, _∙_, subst}
+use mathlib.Core.Path.{_≡_, refl, subst}
 use mathlib.Core.List.{List}
 use Prim.Native.Nat.{ℕ, suc, _+_, _*_, _/_, _<_, _≤_}
 use native.Mathlib.Decide.{decLt}
 use native.Mathlib.Omega.{arith}
 use lib.ListN.{length}
-use Rattle.blocks.specs.Bytes.{part}
 use Rattle.blocks.specs.Edition.{Edition}
 use Rattle.blocks.specs.Block.{Sound, EndBlock}
 use Rattle.blocks.specs.File.{blockAt, ProperFile, Begins, Whole, Fault, check, layout, last}

@@ -1,26 +1,23 @@
 -- A proper file is just the file of the records that stand in it, whatever the records are.
 -- Assumes nothing.
-use mathlib.Core.Path.{_≡_, refl, sym, ap, _∙_, subst}
+use mathlib.Core.Path.{_≡_, refl, sym, _∙_}
 use mathlib.Core.List.{List, _++_}
-use Prim.Native.Nat.{ℕ, suc, _+_, _*_, _^_, _<_, _≤_}
+use Prim.Native.Nat.{ℕ, _+_, _*_, _<_}
 use native.Mathlib.Nat.{zero-add, add-zero}
 use native.Mathlib.Omega.{arith}
 use lib.ListN.{length, length-append}
 use Rattle.words.specs.Table.{at}
-use Rattle.blocks.specs.Bytes.{le, part, flat, Under}
-use Rattle.blocks.specs.Edition.{Form, Edition}
-use Rattle.blocks.specs.Block.{EndBlock}
-use Rattle.blocks.specs.File.{blockAt, most-words, most-rules, Blocks, ProperFile}
-use Rattle.blocks.specs.Written.{held, block, blocksOf, wordBlocks, ruleBlocks, fileOf}
+use Rattle.blocks.specs.Bytes.{le, part}
+use Rattle.blocks.specs.Edition.{Edition}
+use Rattle.blocks.specs.File.{blockAt, ProperFile}
+use Rattle.blocks.specs.Written.{block, blocksOf, wordBlocks, ruleBlocks, fileOf}
 use Rattle.blocks.proofs.Parts.{length-part, part-add, part-all, part-left, part-right, under-part}
 use Rattle.blocks.proofs.Numbers.{length-le}
-use Rattle.blocks.proofs.Under.{under-append, under-block, under-flat, under-le}
 use Rattle.blocks.proofs.Block.{length-block}
-use Rattle.blocks.proofs.Fair.{Fits, Fair}
-use Rattle.blocks.proofs.Records.{end-block, block-end}
-use Rattle.blocks.proofs.Counts.{blocks-rise}
+use Rattle.blocks.proofs.Fair.{Fair}
+use Rattle.blocks.proofs.Records.{end-block}
 use Rattle.blocks.proofs.InOrder.{blocks-number}
-use Rattle.blocks.proofs.Sequence.{rawAt, length-blocksOf, blocks-bytes, bytes-blocks, raw-is}
+use Rattle.blocks.proofs.Sequence.{rawAt, length-blocksOf, blocks-bytes, raw-is}
 
 -- ---- from a proper file to its bytes
 

@@ -2,7 +2,7 @@
 -- Assumes nothing.
 use mathlib.Core.Path.{_≡_, refl, sym, ap, _∙_}
 use mathlib.Core.List.{List, [], _∷_, _++_, append-assoc}
-use Prim.Native.Nat.{ℕ, zero, suc, _+_, _*_, _/_, _%_, _<_, _≤_}
+use Prim.Native.Nat.{ℕ, zero, suc, _+_, _*_, _/_, _%_, _<_}
 use native.Mathlib.Nat.{add-zero}
 use native.Mathlib.Decide.{decLt}
 use native.Mathlib.Omega.{arith}
@@ -11,8 +11,8 @@ use lib.Seq.{ext-getD}
 use Rattle.words.specs.Table.{at}
 use Rattle.rules.specs.Tight.{Rule}
 use Rattle.checker.specs.Lent.{series, widthAt, loAt, hiAt}
-use Rattle.blocks.specs.Bytes.{le, number, zeros, flat, Under}
-use Rattle.blocks.specs.Records.{wordBytes, ruleBytes, wordRecord, ruleRecord}
+use Rattle.blocks.specs.Bytes.{le, zeros, flat, Under}
+use Rattle.blocks.specs.Records.{wordBytes, ruleBytes, wordRecord}
 use Rattle.blocks.proofs.Block.{eight}
 
 -- ---- lists by their places

@@ -1,6 +1,6 @@
 -- The machine accepts exactly the beginnings of proper files.
 -- Assumes nothing.
-use mathlib.Core.Path.{_≡_, refl, sym, ap, _∙_, subst}
+use mathlib.Core.Path.{_≡_, sym, ap, _∙_, subst}
 use mathlib.Core.List.{List, _++_}
 use Prim.Native.Nat.{ℕ, zero, suc, _+_, _-_, _*_, _<_, _≤_}
 use native.Mathlib.Nat.{zero-add, add-zero, add-suc}
@@ -9,8 +9,7 @@ use native.Mathlib.Omega.{arith}
 use lib.ListN.{length, length-append}
 use Rattle.blocks.specs.Bytes.{le, part, Under}
 use Rattle.blocks.specs.Edition.{Edition}
-use Rattle.blocks.specs.Block.{EndBlock}
-use Rattle.blocks.specs.File.{blockAt, ProperFile, Begins}
+use Rattle.blocks.specs.File.{blockAt, Begins}
 use Rattle.blocks.specs.Machine.{Run, start, more-words, more-rules, Ended, end, Accepted, going, ended}
 use Rattle.blocks.specs.Written.{block}
 use Rattle.blocks.proofs.Parts.{length-part, part-all, part-left, part-part, part-right, under-part}

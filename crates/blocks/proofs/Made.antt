@@ -6,7 +6,7 @@ use Prim.Native.Nat.{ℕ, _+_, _*_, _^_, _<_, _≤_}
 use native.Mathlib.Omega.{arith}
 use lib.ListN.{length}
 use Rattle.words.specs.Table.{at}
-use Rattle.blocks.specs.Bytes.{le, flat, Under}
+use Rattle.blocks.specs.Bytes.{le, Under}
 use Rattle.blocks.specs.Edition.{Form, Edition}
 use Rattle.blocks.specs.File.{most-words, most-rules, ProperFile}
 use Rattle.blocks.specs.Written.{held, blocksOf, wordBlocks, ruleBlocks, fileOf}

@@ -1,11 +1,10 @@
 -- The machine reads a file in one way: one count of words and rules, one limit; and every block that it accepts has its sum right.
 -- Assumes nothing.
-use mathlib.Core.Path.{_≡_, refl, sym, ap, _∙_, subst}
+use mathlib.Core.Path.{_≡_, refl, sym, _∙_, subst}
 use mathlib.Core.List.{List}
-use Prim.Native.Nat.{ℕ, zero, suc, _+_, _*_, _<_, _≤_}
+use Prim.Native.Nat.{ℕ, suc, _+_, _<_}
 use native.Mathlib.Decide.{decLt}
 use native.Mathlib.Omega.{arith}
-use lib.ListN.{length}
 use Rattle.blocks.specs.Edition.{Edition}
 use Rattle.blocks.specs.Block.{Sound, Header, EndBlock}
 use Rattle.blocks.specs.File.{blockAt, ProperFile}

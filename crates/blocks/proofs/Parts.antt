@@ -5,7 +5,7 @@ use mathlib.Core.List.{List, [], _∷_, _++_}
 use Prim.Native.Nat.{ℕ, zero, suc, _+_, _<_, _≤_}
 use native.Mathlib.Decide.{decLt}
 use native.Mathlib.Omega.{arith}
-use lib.ListN.{length, getD, take, drop, length-take, length-drop, List·getD-eq-default}
+use lib.ListN.{length, take, drop, length-take, length-drop, List·getD-eq-default}
 use lib.Seq.{take-add, take-take, take-length, take-append-le, drop-drop, drop-append-le, drop-append-add, drop-cons, getD-take, getD-drop}
 use Rattle.words.specs.Table.{at}
 use Rattle.blocks.specs.Bytes.{part, Under}

@@ -7,13 +7,12 @@ use native.Mathlib.Decide.{decLt}
 use native.Mathlib.Omega.{arith}
 use lib.Dec.{T, eqb, leb, eqb→eq, leb→le}
 use lib.ListN.{length, List·getD-eq-default}
-use Rattle.words.specs.Word.{bounded}
 use Rattle.rules.proofs.FitTest.{both}
 use Rattle.checker.specs.declared.Checked.the-variants.{Ok}
-use Rattle.checker.specs.Lent.{stride, fields, wordCount, widthAt, loAt, hiAt, ruleCount}
-use Rattle.checker.specs.Demands.{SIZE, WIDTH, TABLE, LIMIT, Sized, most-guesses}
+use Rattle.checker.specs.Lent.{stride, fields, wordCount, widthAt}
+use Rattle.checker.specs.Demands.{SIZE, WIDTH, LIMIT, Sized, most-guesses}
 use Rattle.checker.specs.Tests.{sized, isWidth}
-use Rattle.checker.specs.Refusal.{asks, firstOf, wordRefusal, ruleRefusal, refusal, refusalWith}
+use Rattle.checker.specs.Refusal.{asks, firstOf, wordRefusal, refusal, refusalWith}
 use Rattle.checker.proofs.Firsts.{asks-ok, then-ok, run-ok}
 use Rattle.checker.proofs.Answers.{one-to}
 use Rattle.blocks.specs.Bytes.{Under}

@@ -1,6 +1,6 @@
 -- Two results that a promise allows are equal.
 -- Assumes nothing.
-use mathlib.Core.Path.{_≡_, refl, sym, ap, _∙_}
+use mathlib.Core.Path.{_≡_, refl, sym, _∙_}
 use mathlib.Core.List.{List}
 use Prim.Native.Nat.{ℕ}
 use native.Mathlib.Omega.{arith}
@@ -10,7 +10,7 @@ use Rattle.blocks.specs.declared.Written.{Written}
 use Rattle.blocks.specs.Edition.{edition1}
 use Rattle.blocks.specs.File.{ProperFile, Whole, Fault}
 use Rattle.blocks.specs.Written.{IsFile}
-use Rattle.blocks.specs.Promise.{Room, Reads, Writes}
+use Rattle.blocks.specs.Promise.{Reads, Writes}
 use Rattle.checker.specs.Lent.{wordCount, ruleCount}
 use Rattle.blocks.proofs.Fair.{fair1}
 use Rattle.blocks.proofs.Faults.{fault-once, proper-whole, proper-faultless}

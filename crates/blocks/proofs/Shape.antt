@@ -1,8 +1,8 @@
 -- What the machine has accepted is words blocks in order and then rules blocks in order, and the other way round.
 -- Assumes nothing.
-use mathlib.Core.Path.{_≡_, refl, sym, ap, _∙_, subst}
+use mathlib.Core.Path.{_≡_, refl, sym, _∙_, subst}
 use mathlib.Core.List.{List}
-use Prim.Native.Nat.{ℕ, zero, suc, _+_, _*_, _%_, _<_, _≤_}
+use Prim.Native.Nat.{ℕ, zero, suc, _+_, _*_, _≤_}
 use native.Mathlib.Nat.{zero-add, add-zero, add-suc, mul-mod-right}
 use native.Mathlib.Omega.{arith}
 use lib.ListN.{length}
@@ -11,7 +11,6 @@ use Rattle.blocks.specs.Edition.{Edition}
 use Rattle.blocks.specs.Block.{RecordBlock, EndBlock}
 use Rattle.blocks.specs.File.{blockAt, countAt, most-words, most-rules, Blocks, ProperFile}
 use Rattle.blocks.specs.Machine.{Run, start, more-words, more-rules, Ended, end}
-use Rattle.blocks.specs.Written.{blocksFor}
 use Rattle.blocks.proofs.Pieces.{total-none}
 use Rattle.blocks.proofs.Fair.{Fair}
 use Rattle.blocks.proofs.Counts.{blocks-nothing, blocks-rise}

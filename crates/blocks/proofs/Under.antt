@@ -11,7 +11,6 @@ use Rattle.words.specs.Table.{at}
 use Rattle.words.proofs.Tables.{set-all}
 use Rattle.blocks.specs.Bytes.{le, zeros, flat, Under}
 use Rattle.blocks.specs.Edition.{Edition}
-use Rattle.blocks.specs.Block.{sum}
 use Rattle.blocks.specs.Written.{seal, headed, block}
 use Rattle.blocks.proofs.Pieces.{at-zeros}
 use Rattle.blocks.proofs.Seal.{checked}

@@ -1,21 +1,20 @@
 -- A proper file is the file of the problem read off it, byte by byte.
 -- Assumes nothing.
-use mathlib.Core.Path.{_≡_, refl, sym, ap, _∙_, subst}
+use mathlib.Core.Path.{_≡_, sym, _∙_}
 use mathlib.Core.List.{List}
-use Prim.Native.Nat.{ℕ, suc, _+_, _-_, _*_, _/_, _%_, _^_, _<_, _≤_}
+use Prim.Native.Nat.{ℕ, _+_, _-_, _*_, _/_, _%_, _^_, _<_, _≤_}
 use native.Mathlib.Nat.{div-add-mod, mod-lt}
 use native.Mathlib.Decide.{decLt}
 use native.Mathlib.Omega.{arith}
 use lib.ListN.{length, List·getD-eq-default}
 use Rattle.words.specs.Table.{at}
 use Rattle.checker.specs.Lent.{wordCount, widthAt, ruleCount}
-use Rattle.checker.specs.Demands.{Sized}
-use Rattle.blocks.specs.Bytes.{number, part, Under}
+use Rattle.blocks.specs.Bytes.{part}
 use Rattle.blocks.specs.Records.{wordRecord, ruleRecord}
 use Rattle.blocks.specs.Edition.{Form, edition1}
 use Rattle.blocks.specs.Block.{Clear}
 use Rattle.blocks.specs.File.{blockAt, Blocks, ProperFile}
-use Rattle.blocks.specs.Written.{held, blocksFor, wordBlocks, ruleBlocks, blocksOf, fileOf, encode, Storable, IsFile}
+use Rattle.blocks.specs.Written.{wordBlocks, ruleBlocks, fileOf, encode, Storable, IsFile}
 use Rattle.blocks.specs.Decode.{slot, wordsIn, rulesIn}
 use Rattle.blocks.proofs.Parts.{at-part, short-part, under-part}
 use Rattle.blocks.proofs.Numbers.{number-under}

@@ -7,7 +7,7 @@ use lib.ListN.{length, set}
 use Rattle.checker.specs.Lent.{wordCount, widthAt, ruleCount}
 use Rattle.checker.specs.Demands.{Sized}
 use Rattle.blocks.specs.Bytes.{le, zeros, flat, Under}
-use Rattle.blocks.specs.Edition.{Form, Edition}
+use Rattle.blocks.specs.Edition.{Edition}
 use Rattle.blocks.specs.Block.{sum}
 
 -- a block with its check stored: bytes 6 and 7, which were 0, make the sum right

@@ -8,7 +8,7 @@ use native.Mathlib.Nat.{mul-suc, mul-le-mul-left}
 use native.Mathlib.Decide.{decLt}
 use native.Mathlib.Omega.{arith}
 use Rattle.words.specs.Table.{at}
-use Rattle.blocks.specs.Block.{Clear, Records}
+use Rattle.blocks.specs.Block.{Clear}
 use Rattle.reader.specs.Tests.{Decides, holds, fails, Gaps}
 
 pub decided : {P : Type 0} {r : Bool} → Decides P r → r ≡ true → P

@@ -4,14 +4,12 @@ use mathlib.Core.Path.{_≡_, sym, _∙_, subst}
 use mathlib.Core.List.{List}
 use Prim.Native.Nat.{ℕ}
 use native.Mathlib.Omega.{arith}
-use lib.ListN.{length}
 use Rattle.words.specs.Table.{at}
-use Rattle.blocks.specs.declared.Problem.{Problem}
 use Rattle.blocks.specs.Bytes.{number, part}
 use Rattle.blocks.specs.Edition.{edition1}
 use Rattle.blocks.specs.Block.{sixteen, Sound, Clear, Records, Header}
 use Rattle.reader.specs.declared.Body.{Body}
-use Rattle.reader.specs.Tests.{NoBlock, Is, words-block, rules-block, end-block, bad}
+use Rattle.reader.specs.Tests.{Is, words-block, rules-block, end-block, bad}
 
 -- sum, edition and number are right
 pub record Head (i : ℕ) (b : List ℕ) : Type 0 where

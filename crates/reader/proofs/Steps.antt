@@ -1,16 +1,14 @@
 -- The machine's step by what a block is, and where it is stuck.
 -- Assumes nothing.
-use mathlib.Core.Path.{_≡_, sym, _∙_}
+use mathlib.Core.Path.{_≡_}
 use mathlib.Core.List.{List}
 use Prim.Native.Nat.{ℕ, _+_, _%_, _≤_}
 use native.Mathlib.Omega.{arith}
-use Rattle.blocks.specs.Edition.{edition1}
-use Rattle.blocks.specs.Block.{WordsBlock, RulesBlock, EndBlock}
 use Rattle.blocks.proofs.Once.{kind-once}
 use Rattle.reader.specs.declared.Body.{Body}
 use Rattle.reader.specs.declared.Step.{Step}
-use Rattle.reader.specs.Tests.{NoBlock, Is, words-block, rules-block, end-block, bad}
-use Rattle.reader.specs.Scans.{Stuck, Stepped, words-step, rules-step, end-step, fault-step}
+use Rattle.reader.specs.Tests.{Is, words-block, rules-block, end-block, bad}
+use Rattle.reader.specs.Scans.{Stepped, words-step, rules-step, end-step, fault-step}
 
 module _ {i : ℕ} {b : List ℕ} (n m : ℕ) where
   pub stuck-words : {c : ℕ} → Is i b (Body.Words c) → (m ≡ 0 → n % 21 ≡ 0 → n + c ≤ 32 → ⊥) → Stepped b i n m Step.Fault

@@ -2,20 +2,19 @@
 -- Assumes nothing.
 use mathlib.Core.Path.{_≡_, refl, sym, _∙_, subst}
 use mathlib.Core.List.{List}
-use Prim.Native.Nat.{ℕ, zero, suc, _+_, _-_, _*_, _/_, _%_, _<_, _≤_}
+use Prim.Native.Nat.{ℕ, zero, suc, _+_, _-_, _*_, _/_, _%_, _≤_}
 use native.Mathlib.Numerals.{add-one, sub-one}
 use native.Mathlib.Omega.{arith}
 use lib.ListN.{length, take, drop}
-use Rattle.blocks.specs.declared.Problem.{Problem}
 use Rattle.blocks.specs.Bytes.{part, Under}
 use Rattle.blocks.specs.Edition.{edition1}
-use Rattle.blocks.specs.Block.{sum, Sound, EndBlock}
+use Rattle.blocks.specs.Block.{sum, Sound}
 use Rattle.blocks.specs.File.{blockAt, Begins, Whole, Fault}
 use Rattle.blocks.specs.Machine.{Run, start, more-words, more-rules, Ended, end, Accepted}
 use Rattle.blocks.proofs.Fair.{fair1}
 use Rattle.blocks.proofs.Machine.{accepted-begins, begins-accepted}
 use Rattle.blocks.proofs.Once.{run-once, run-no-end, none-after-end}
-use Rattle.blocks.proofs.Shape.{run-shaped, ended-proper}
+use Rattle.blocks.proofs.Shape.{ended-proper}
 use Rattle.reader.specs.declared.Step.{Step}
 use Rattle.reader.specs.declared.State.{State}
 use Rattle.reader.specs.declared.Turn.{Turn}

@@ -1,5 +1,4 @@
 -- `reader::keep` meets its contract. Assumes nothing.
-use mathlib.Core.Path.{_≡_}
 use native.Mathlib.Omega.{arith}
 use borrow.Author.Needs.{needs}
 use Rattle.blocks.proofs.WriteBack.{proper-room}

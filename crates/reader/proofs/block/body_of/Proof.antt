@@ -1,5 +1,5 @@
 -- `reader::block::body_of` meets its contract: each test that fails tells that the block is none, and all together which it is. Assumes nothing.
-use mathlib.Core.Path.{_≡_, sym, _∙_}
+use mathlib.Core.Path.{sym, _∙_}
 use borrow.Author.Needs.{needs}
 use borrow.Author.Tests.{not-true, not-false}
 use Rattle.blocks.specs.Bytes.{Under}

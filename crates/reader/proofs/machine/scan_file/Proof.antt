@@ -1,9 +1,8 @@
 -- `reader::machine::scan_file` meets its contract: the machine stands where the blocks passed lead it. Assumes nothing.
-use mathlib.Core.Path.{_≡_, subst}
-use Prim.Native.Nat.{_-_, _/_, _≤_}
+use mathlib.Core.Path.{subst}
+use Prim.Native.Nat.{_-_, _≤_}
 use native.Mathlib.Omega.{arith}
 use borrow.Author.Needs.{needs}
-use lib.ListN.{length}
 use Rattle.blocks.specs.Bytes.{Under}
 use Rattle.blocks.specs.Edition.{edition1}
 use Rattle.blocks.specs.File.{Whole}

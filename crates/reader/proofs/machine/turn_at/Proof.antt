@@ -1,12 +1,10 @@
 -- `reader::machine::turn_at` meets its contract: one answer for each way that a block may go. Assumes nothing.
-use mathlib.Core.Path.{_≡_, subst}
+use mathlib.Core.Path.{subst}
 use borrow.Author.Needs.{needs}
 use Rattle.blocks.specs.Block.{Sound}
 use Rattle.blocks.specs.Edition.{edition1}
 use Rattle.blocks.specs.File.{blockAt}
-use Rattle.blocks.specs.Machine.{Run}
 use Rattle.blocks.proofs.Fair.{fair1}
-use Rattle.blocks.proofs.Parts.{length-part}
 use Rattle.blocks.proofs.Shape.{run-shaped}
 use Rattle.reader.specs.Scans.{Stepped, Stands}
 use Rattle.reader.specs.declared.State.{State}

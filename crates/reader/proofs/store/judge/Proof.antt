@@ -1,8 +1,6 @@
 -- `reader::store::judge` meets its contract: what is checked is what was stored. Assumes nothing.
-use mathlib.Core.Path.{_≡_}
 use Prim.Native.Nat.{_*_}
 use borrow.Author.Needs.{needs}
-use lib.ListN.{length, take}
 use Rattle.blocks.specs.Decode.{wordsIn, rulesIn}
 use Rattle.blocks.proofs.WriteBack.{length-words, length-rules}
 use Rattle.reader.proofs.Keeps.{judged}
