@@ -8,26 +8,22 @@ use Rattle.checker.specs.declared.Checked.{Checked}
 use Rattle.blocks.specs.declared.Reading.{Reading}
 use Rattle.blocks.specs.declared.Written.{Written}
 use Rattle.blocks.specs.Edition.{edition1}
-use Rattle.blocks.specs.File.{ProperFile, Whole, Fault}
+use Rattle.blocks.specs.File.{Whole, Fault}
 use Rattle.blocks.specs.Written.{IsFile}
 use Rattle.blocks.specs.Promise.{Reads, Writes}
-use Rattle.checker.specs.Lent.{wordCount, ruleCount}
 use Rattle.blocks.proofs.Fair.{fair1}
 use Rattle.blocks.proofs.Faults.{fault-once, proper-whole, proper-faultless}
-use Rattle.blocks.proofs.ReadBack.{written-proper, one-problem}
+use Rattle.blocks.proofs.ReadBack.{file-proper, one-problem}
 
 refused-ok : {n i : ℕ} {x : Checked} → x ≡ Checked.Refused n i → x ≡ Checked.Ok → ⊥
 refused-ok p q = let z : _≡_ {A = ℕ} 0 1 = cc in omega arith
 
 module _ {limit : ℕ} {ws bs f : List ℕ} (is : IsFile edition1 limit ws bs f) where
-  file-proper : ProperFile edition1 f (wordCount ws) (ruleCount bs) limit
-  file-proper = let e = is .same in rw e (written-proper (is .storable))
-
   pub file-whole : Whole edition1 f
-  file-whole = proper-whole fair1 file-proper
+  file-whole = proper-whole fair1 (file-proper is)
 
   pub file-faultless : {n i : ℕ} → Fault edition1 f n i → ⊥
-  file-faultless x = proper-faultless fair1 file-proper x
+  file-faultless x = proper-faultless fair1 (file-proper is) x
 
 pub read-once : {f a b y z y′ z′ : List ℕ} {r s : Reading} → Reads edition1 f a b y z r → Reads edition1 f a b y′ z′ s
     → (r ≡ s) × (y ≡ y′) × (z ≡ z′)

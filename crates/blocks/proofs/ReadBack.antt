@@ -96,15 +96,17 @@ module _ {limit : ℕ} {ws bs : List ℕ} (ok : Storable limit ws bs) where
           let e : 6 * (x / 6) + x % 6 ≡ x = omega arith in
           rule-encoded f n m (omega (arith, length-encode limit ws bs)) bs (x / 6) (there (x / 6) (omega arith)) (x % 6) (omega arith) ∙ ap (at bs) e
 
+-- the file of a problem is proper
+pub file-proper : {limit : ℕ} {ws bs f : List ℕ} → IsFile edition1 limit ws bs f → ProperFile edition1 f (wordCount ws) (ruleCount bs) limit
+file-proper is = let e = is .same in rw e (written-proper (is .storable))
+
 -- a file is that of one problem
 pub one-problem : {limit limit′ : ℕ} {ws bs ws′ bs′ f : List ℕ} → IsFile edition1 limit ws bs f → IsFile edition1 limit′ ws′ bs′ f
     → (limit ≡ limit′) × (ws ≡ ws′) × (bs ≡ bs′)
 one-problem {limit} {limit′} {ws} {bs} {ws′} {bs′} {f} a b =
     let d = a .same in
     let e = b .same in
-    let p : ProperFile edition1 f (wordCount ws) (ruleCount bs) limit = rw d (written-proper (a .storable)) in
-    let q : ProperFile edition1 f (wordCount ws′) (ruleCount bs′) limit′ = rw e (written-proper (b .storable)) in
-    let (k, j, l) = proper-once fair1 p q in
+    let (k, j, l) = proper-once fair1 (file-proper a) (file-proper b) in
     let w = words-back (a .storable) in
     let w′ = words-back (b .storable) in
     let r = rules-back (a .storable) in

@@ -45,13 +45,15 @@ module _ (E : Edition) where
     pub header : Header kind i c b
     pub records : Records (F .size) (F .used) (F .most) c b
 
+  -- kind 1
   abbrev pub WordsBlock : ℕ → ℕ → List ℕ → Type 0
   WordsBlock i c b = RecordBlock 1 (E .words) i c b
 
+  -- kind 2
   abbrev pub RulesBlock : ℕ → ℕ → List ℕ → Type 0
   RulesBlock i c b = RecordBlock 2 (E .rules) i c b
 
-  -- count 0, the limit in the first four record bytes, and zeros
+  -- kind 3: count 0, the limit in the first four record bytes, and zeros
   pub record EndBlock (i limit : ℕ) (b : List ℕ) : Type 0 where
     pub header : Header 3 i 0 b
     pub limit-is : number (part b 8 4) ≡ limit
