@@ -1,0 +1,7 @@
+pub mod Deciding
+pub mod Loading
+pub mod Parse
+pub mod Steps
+pub mod Turns
+pub mod Stores
+pub mod Keeps
