@@ -20,7 +20,7 @@ use Rattle.blocks.specs.Edition.{edition1}
 use Rattle.blocks.specs.Written.{wordBlocks, ruleBlocks, encode}
 use Rattle.blocks.specs.Promise.{Writes}
 use Rattle.blocks.proofs.ReadBack.{length-encode}
-use Rattle.blocks.proofs.Passed.{sized-sound}
+use Rattle.checker.proofs.TestsMet.{sized-met}
 use Rattle.writer.specs.Items.{roomFor}
 
 module _ (limit : ℕ) (ws bs : List ℕ) where
@@ -33,7 +33,7 @@ module _ (limit : ℕ) (ws bs : List ℕ) where
   over n = go (sized ws bs) refl
     where
       go : (x : Bool) → sized ws bs ≡ x → refusalWith limit ws bs ≡ Checked.Refused 1 0
-      go true e = absurd (n (sized-sound ws bs (rw e tt)))
+      go true e = absurd (n (sized-met ws bs (rw e tt)))
       go false e = sym (refused-problem ws bs limit (sym (refused-size ws bs e)))
 
   module _ (f : List ℕ) where
