@@ -1,4 +1,4 @@
--- A kind that goes by columns: what the sweep leaves between the bounds of its frame is the hull of the fits at each place that it uses.
+-- A kind that goes by columns: its fits are the runs of its automaton between the bounds of its frame.
 -- Assumes nothing.
 use mathlib.Core.Path.{_≡_, refl, sym, _∙_}
 use mathlib.Core.Logic.{_↔_}

@@ -22,22 +22,13 @@ use Rattle.hull.proofs.Meaning.{Under, computes}
 -- ---- one bit
 
 one-and : (x y : Bool) → min (one x) (one y) ≡ one (x && y)
-one-and true true = refl
-one-and true false = refl
-one-and false true = refl
-one-and false false = refl
+one-and x y = eqb→eq _ _ (at3 (λ q x y. eqb (min (one x) (one y)) (one (x && y))) tt true x y)
 
 one-or : (x y : Bool) → max (one x) (one y) ≡ one (x || y)
-one-or true true = refl
-one-or true false = refl
-one-or false true = refl
-one-or false false = refl
+one-or x y = eqb→eq _ _ (at3 (λ q x y. eqb (max (one x) (one y)) (one (x || y))) tt true x y)
 
 one-xor : (x y : Bool) → differ (one x) (one y) ≡ one (xor x y)
-one-xor true true = refl
-one-xor true false = refl
-one-xor false true = refl
-one-xor false false = refl
+one-xor x y = eqb→eq _ _ (at3 (λ q x y. eqb (differ (one x) (one y)) (one (xor x y))) tt true x y)
 
 one-sum : (q y z : Bool) → one (carry q y z) * 2 + one (xor q (xor y z)) ≡ one y + one z + one q
 one-sum q y z =
