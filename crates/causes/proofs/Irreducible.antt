@@ -41,7 +41,8 @@ module _ {w v : List ℕ} (rs : List Rule) (n : ℕ) (kept : List ℕ) (size : n
   first-hold : (k : ℕ) → k < n → HoldsAt w v (rule rs k)
   first-hold k l =
       let s = length-take-le n rs size in
-      let e : rule (trial rs n kept) k ≡ rule rs k = List·getD-append (take n rs) (map (rule rs) kept) none-rule k (omega arith) ∙ getD-take n rs k none-rule l in
+      let e : rule (trial rs n kept) k ≡ rule rs k =
+      List·getD-append (take n rs) (map (rule rs) kept) none-rule k (omega arith) ∙ getD-take n rs k none-rule l in
       subst (HoldsAt w v) e (h .each k (omega (arith, length-append (take n rs) (map (rule rs) kept))))
 
   kept-hold : (k : ℕ) → In k kept → HoldsAt w v (rule rs k)
@@ -77,7 +78,8 @@ module _ {w : List ℕ} {rs : List Rule} {limit : ℕ} {t : Table} where
       go (inr (here e)) = inl (omega arith)
       go (inr (there a)) = inr a
 
-  trims-kept : {n c d : ℕ} {kept out : List ℕ} → Trims w rs limit t n kept c (CAUSE out d) → n ≤ length rs → (k : ℕ) → In k out → In k kept ⊎ Kept w rs limit t out k
+  trims-kept : {n c d : ℕ} {kept out : List ℕ} → Trims w rs limit t n kept c (CAUSE out d) → n ≤ length rs → (k : ℕ) → In k out
+      → In k kept ⊎ Kept w rs limit t out k
   trims-kept decided l k i = inl i
   trims-kept (spared s r) l k i = trims-kept r (omega arith) k i
   trims-kept {out = out} (needed {n = n} {d = e} {kept = kept} {v = v} s r) l k i = go (trims-kept r (omega arith) k i)
@@ -104,7 +106,8 @@ module _ {w : List ℕ} {rs : List Rule} {limit : ℕ} {t : Table} where
       go (inl a) = absurd (any-none a)
       go (inr x) =
           let first = right (Tight w (trial rs k (x .kept))) (AllHold w (trial rs k (x .kept))) (tight-agree w (trial rs k (x .kept))) (x .tried) in
-          (x .values, record { keeps = first .settings .keeps; holds = hold-each rs xs (λ j a. by j (x .others j (part j a .0) (part j a .1)) (first .settings .holds)) })
+          let hold = hold-each rs xs (λ j a. by j (x .others j (part j a .0) (part j a .1)) (first .settings .holds)) in
+          (x .values, record { keeps = first .settings .keeps; holds = hold })
         where
           by : (j : ℕ) → (j < k) ⊎ In j (x .kept) → AllHold w (trial rs k (x .kept)) (x .values) → HoldsAt w (x .values) (rule rs j)
           by j (inl l) h = first-hold rs k (x .kept) (x .size) h j l

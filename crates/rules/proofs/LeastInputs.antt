@@ -79,7 +79,11 @@ module _ (ρ : Rule) (i : ℕ) where
       go true e (yes x) (yes a) (no n) s = no (λ c. n (λ u. c .below B u B≢R))
       go true e (yes x) (yes a) (yes b) (no n) = no (λ c. n (λ u. c .below S u S≢R))
       go true e (yes x) (yes a) (yes b) (yes s) =
-          yes (record { computing = rw e tt; result = x; below = λ p. elim p [ R ↦ λ u d. absurd (d refl) | A ↦ λ u d. a u | B ↦ λ u d. b u | S ↦ λ u d. s u ] })
+          yes (record {
+            computing = rw e tt;
+            result = x;
+            below = λ p. elim p [ R ↦ λ u d. absurd (d refl) | A ↦ λ u d. a u | B ↦ λ u d. b u | S ↦ λ u d. s u ];
+          })
 
 module _ (rs : List Rule) (t : Table) (whole : Inside t t) where
   unfoldable pub dec-computed : (i : ℕ) → Dec (Computed rs i)

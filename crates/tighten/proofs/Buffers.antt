@@ -17,7 +17,8 @@ use Rattle.tighten.specs.Memory.{Loaded, Numbered, Cleared, putBounds}
 pub loaded-start : (ws l : List ℕ) → Loaded 0 ws l l
 loaded-start ws l = record { size = refl; low = λ i h. absurd (omega arith); high = λ i h. absurd (omega arith) }
 
-module _ {i : ℕ} {ws l m : List ℕ} (x : Loaded i ws l m) (small : i < 32) (room : 64 ≤ length l) (a b : ℕ) (lo : a ≡ at ws (3 * i + 1)) (hi : b ≡ at ws (3 * i + 2)) where
+module _ {i : ℕ} {ws l m : List ℕ} (x : Loaded i ws l m) (small : i < 32) (room : 64 ≤ length l)
+    (a b : ℕ) (lo : a ≡ at ws (3 * i + 1)) (hi : b ≡ at ws (3 * i + 2)) where
   n : List ℕ
   n = set (set m i a) (i + 32) b
 

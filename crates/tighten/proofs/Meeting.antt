@@ -159,7 +159,8 @@ module _ {P : Table → Type 0} (n : ℕ) {t : Table} {l : List ℕ} {z : State}
 -- ---- looking back: where nothing changed, the bounds met were no narrower
 
 pub met-back : (z : State) (i a b : ℕ) → metBy z i a b .met .fit ≡ true → metBy z i a b .met .changed ≡ false
-    → (z .met .fit ≡ true) × (z .met .changed ≡ false) × (bitOr (at (z .memory) i) a ≡ at (z .memory) i) × (bitAnd (at (z .memory) (i + 32)) b ≡ at (z .memory) (i + 32))
+    → (z .met .fit ≡ true) × (z .met .changed ≡ false) × (bitOr (at (z .memory) i) a ≡ at (z .memory) i)
+    × (bitAnd (at (z .memory) (i + 32)) b ≡ at (z .memory) (i + 32))
 unfolding metBy
 met-back z i a b e c = go (z .met .fit) (under lo hi) refl refl e c
   where
@@ -174,7 +175,8 @@ met-back z i a b e c = go (z .met .fit) (under lo hi) refl refl e c
 
     go : (p q : Bool) → z .met .fit ≡ p → under lo hi ≡ q → stored (p && q) changes (z .memory) i lo hi .met .fit ≡ true
         → stored (p && q) changes (z .memory) i lo hi .met .changed ≡ false
-        → (z .met .fit ≡ true) × (z .met .changed ≡ false) × (bitOr (at (z .memory) i) a ≡ at (z .memory) i) × (bitAnd (at (z .memory) (i + 32)) b ≡ at (z .memory) (i + 32))
+        → (z .met .fit ≡ true) × (z .met .changed ≡ false) × (bitOr (at (z .memory) i) a ≡ at (z .memory) i)
+        × (bitAnd (at (z .memory) (i + 32)) b ≡ at (z .memory) (i + 32))
     go true true p q e c =
         let (c₁, c₂) = or-false (z .met .changed) _ c in
         let (c₃, c₄) = or-false (not (eqb lo (at (z .memory) i))) _ c₂ in

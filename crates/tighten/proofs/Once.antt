@@ -58,7 +58,8 @@ bounds-once {ws} {us} {vs} whole e x y = ext-getD 0 us vs (x .size ∙ sym (y .s
 other : {n p : ℕ} {x : Checked} → x ≡ Refused n p → x ≡ Ok → ⊥
 other a b = let z : _≡_ {A = ℕ} 0 1 = cc in omega arith
 
-pub tighten-once : {ws bs l : List ℕ} {x y : Answer} {us vs m n : List ℕ} → Tightening ws bs l x us m → Tightening ws bs l y vs n → (x ≡ y) × (us ≡ vs) × (m ≡ n)
+pub tighten-once : {ws bs l : List ℕ} {x y : Answer} {us vs m n : List ℕ} → Tightening ws bs l x us m → Tightening ws bs l y vs n
+    → (x ≡ y) × (us ≡ vs) × (m ≡ n)
 tighten-once (refused a) (refused b) = (cc, refl, refl)
 tighten-once (refused a) (tight b w v c) = absurd (other a b)
 tighten-once (refused a) (conflict b w c) = absurd (other a b)

@@ -77,7 +77,8 @@ module _ {ws bs l : List ℕ} (ready : Ready ws bs l) (j : ℕ) (listed : j < ru
       high S = sym (high-at (wordCount ws) l (ruleAt bs j .s) (below S))
 
   -- its narrowing may be asked for
-  pub askable : (0 < numbersAt bs j .kind) × (numbersAt bs j .kind < 15) × Legal (shapeOf (numbersAt bs j .kind) (numbersAt bs j .k) (widthsAt ws (numbersAt bs j))) (spanOf (boundsAt l (numbersAt bs j)))
+  pub askable : (0 < numbersAt bs j .kind) × (numbersAt bs j .kind < 15)
+      × Legal (shapeOf (numbersAt bs j .kind) (numbersAt bs j .k) (widthsAt ws (numbersAt bs j))) (spanOf (boundsAt l (numbersAt bs j)))
   unfolding numbersAt
   askable = (
     omega (arith, proper .kind .low),
@@ -86,7 +87,8 @@ module _ {ws bs l : List ℕ} (ready : Ready ws bs l) (j : ℕ) (listed : j < ru
   )
 
   -- and is one over the table
-  pub narrows : {o : Narrowed} → Narrows (shapeOf (numbersAt bs j .kind) (numbersAt bs j .k) (widthsAt ws (numbersAt bs j))) (spanOf (boundsAt l (numbersAt bs j))) o
+  pub narrows : {o : Narrowed}
+      → Narrows (shapeOf (numbersAt bs j .kind) (numbersAt bs j .k) (widthsAt ws (numbersAt bs j))) (spanOf (boundsAt l (numbersAt bs j))) o
       → Narrows (shape (widthsOf ws) (ruleAt bs j)) (span (tableIn (wordCount ws) l) (ruleAt bs j)) o
   narrows h = rw (shape-same, span-same) at h
 
@@ -126,7 +128,8 @@ module _ {ws bs l : List ℕ} (ready : Ready ws bs l) (j : ℕ) (listed : j < ru
     unfolding numbersAt
     applied o h r m e =
         let same : ruleOf x ≡ ruleAt bs j = ap ruleOf read in
-        let n : Narrows (shape (widthsOf ws) (ruleOf x)) (span (tableIn (wordCount ws) l) (ruleOf x)) o = rw same (narrows ready j listed (rw (wide, bounds, read) at h)) in
+        let n : Narrows (shape (widthsOf ws) (ruleOf x)) (span (tableIn (wordCount ws) l) (ruleOf x)) o =
+        rw same (narrows ready j listed (rw (wide, bounds, read) at h)) in
         let whole = proper-inside (ready .table) in
         subst (λ (s : State). Applied ws bs j l (s .memory) (s .met)) (sym e)
         (record {

@@ -62,7 +62,8 @@ module _ {P Q : Table → Type 0} {n : ℕ} {t u v : Table} {c d : Bool} (ok : I
       falls false false p q f = absurd (true-false (sym f ∙ ap₂ _||_ p q))
 
 -- another notion that says the same
-pub stepped-same : {P Q : Table → Type 0} {n : ℕ} {t u : Table} {r : Met} → ((s : Table) → P s → Q s) → ((s : Table) → Q s → P s) → Stepped P n t u r → Stepped Q n t u r
+pub stepped-same : {P Q : Table → Type 0} {n : ℕ} {t u : Table} {r : Met} → ((s : Table) → P s → Q s) → ((s : Table) → Q s → P s)
+    → Stepped P n t u r → Stepped Q n t u r
 stepped-same {t = t} to from x = record {
   none = λ e. record { nothing = λ s q. x .none e .nothing s (from s q) };
   inside = x .inside;

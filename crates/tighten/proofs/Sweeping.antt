@@ -73,7 +73,8 @@ stepped-lost c = record {
 -- ---- one sweep: before rule j, from memory l to m
 
 pub record Passing (ws bs : List ℕ) (l m : List ℕ) (changed : Bool) (j : ℕ) : Type 0 where
-  pub step : Stepped (TightBelow (widthsOf ws) bs l j) (wordCount ws) (tableIn (wordCount ws) l) (tableIn (wordCount ws) m) (record { fit = true; changed = changed })
+  pub step :
+      Stepped (TightBelow (widthsOf ws) bs l j) (wordCount ws) (tableIn (wordCount ws) l) (tableIn (wordCount ws) m) (record { fit = true; changed = changed })
   pub outside : Outside (wordCount ws) l m
 
 module _ {ws bs l : List ℕ} (ready : Ready ws bs l) where
@@ -98,7 +99,8 @@ module _ {ws bs l : List ℕ} (ready : Ready ws bs l) where
     pub next-listed : at m (64 + j) < ruleCount bs
     next-listed = rw still-listed (listed .each j less)
 
-    pub passing-none : {n : List ℕ} (r : Met) → Applied ws bs (at m (64 + j)) m n r → r .fit ≡ false → Swept ws bs c l n (record { fit = false; changed = false })
+    pub passing-none : {n : List ℕ} (r : Met) → Applied ws bs (at m (64 + j)) m n r → r .fit ≡ false
+        → Swept ws bs c l n (record { fit = false; changed = false })
     passing-none r y e =
         let none = stepped-none (proper-inside (ready .table)) (x .step) (rw (still-listed, fit-is r e) at (y .step)) in
         record {
@@ -114,7 +116,8 @@ module _ {ws bs l : List ℕ} (ready : Ready ws bs l) where
       outside = outside-trans (x .outside) (y .outside);
     })
 
-  pub passing-end : {m : List ℕ} {changed : Bool} {c : ℕ} → Listed bs l c → Passing ws bs l m changed c → Swept ws bs c l m (record { fit = true; changed = changed })
+  pub passing-end : {m : List ℕ} {changed : Bool} {c : ℕ} → Listed bs l c → Passing ws bs l m changed c
+      → Swept ws bs c l m (record { fit = true; changed = changed })
   passing-end listed x = record { step = stepped-same (tight-all listed) (all-tight listed) (x .step); outside = x .outside }
 
 -- ---- sweeps until nothing changes: from memory l to m

@@ -49,4 +49,5 @@ pub data Tightening (ws bs l : List ℕ) : Answer → List ℕ → List ℕ → 
   refused : {n p : ℕ} → refusalHere ws bs l ≡ Refused n p → Tightening ws bs l (answer.Refused n p) ws l
   tight : {u : Table} {vs m : List ℕ} → refusalHere ws bs l ≡ Ok → Widest (Tight (widthsOf ws) (rulesOf bs)) (tableOf ws) u → Bounds ws vs u → Cleared l m
       → Tightening ws bs l answer.Tight vs m
-  conflict : {m : List ℕ} → refusalHere ws bs l ≡ Ok → Conflict (Tight (widthsOf ws) (rulesOf bs)) (tableOf ws) → Cleared l m → Tightening ws bs l answer.Conflict ws m
+  conflict : {m : List ℕ} → refusalHere ws bs l ≡ Ok → Conflict (Tight (widthsOf ws) (rulesOf bs)) (tableOf ws) → Cleared l m
+      → Tightening ws bs l answer.Conflict ws m

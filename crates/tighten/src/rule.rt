@@ -53,7 +53,8 @@ fn bounds_at(work: &[u64], x: Numbers) -> hull::Bounds
 
 // The widths of these words.
 fn widths_at(words: &[u64], x: Numbers) -> hull::Widths
-    requires { ⌜ (3 * x .r < length (now words)) × (3 * x .a < length (now words)) × (3 * x .b < length (now words)) × (3 * x .s < length (now words)) × (x .r < 32) × (x .a < 32) × (x .b < 32) × (x .s < 32) ⌝ }
+    requires { ⌜ (3 * x .r < length (now words)) × (3 * x .a < length (now words)) × (3 * x .b < length (now words))
+        × (3 * x .s < length (now words)) × (x .r < 32) × (x .a < 32) × (x .b < 32) × (x .s < 32) ⌝ }
     ensures { λ r. ⌜ r ≡ widthsAt (now (words .entry)) x ⌝ }
 {
     let r = 3 * x.r;

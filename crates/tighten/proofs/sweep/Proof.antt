@@ -58,7 +58,8 @@ loop-again c =
     let l = a .before .before .before .before in
     let s = l .before .before .before .before in
     let less = a .before .before .before .loop-test .taken in
-    (passing-step (s .pre .0) (l .loop .inv .0) (s .pre .1) less (a .apply .result) (a .apply .ensures) (not-false (a .apply .result .fit) (c .before .if1 .left)), omega arith)
+    let fit = not-false (a .apply .result .fit) (c .before .if1 .left) in
+    (passing-step (s .pre .0) (l .loop .inv .0) (s .pre .1) less (a .apply .result) (a .apply .ensures) fit, omega arith)
 
 same-length-2 : tie.Need-same-length-2 Inv-loop μ-loop
 same-length-2 c = c .before .loop .inv .0 .outside .size

@@ -38,7 +38,8 @@ returns c =
     let la = st .before .before .before .before .before in
     let ld = la .before .before .before .before in
     let s = ld .before .before .before .before .before .before in
-    rw (un .unload .ensures) (call-tight (s .pre) (ld .load .ensures) (la .list-all .ensures) (cl .clear .ensures) (rw (th .if1 .taken) at (st .settle .ensures)))
+    let settled = rw (th .if1 .taken) at (st .settle .ensures) in
+    rw (un .unload .ensures) (call-tight (s .pre) (ld .load .ensures) (la .list-all .ensures) (cl .clear .ensures) settled)
 
 clear-requires-2 : tie.Need-clear-requires-2
 clear-requires-2 c κs = search needs

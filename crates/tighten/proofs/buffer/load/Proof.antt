@@ -66,7 +66,8 @@ loop-again : tie.Need-loop-again Inv-loop μ-loop
 loop-again c =
     let l = c .before .before .before in
     let s = l .before in
-    (loaded-turn (l .loop .inv .0) (omega (arith, c .before .before .loop-test .taken, s .pre .0)) (s .pre .2) _ _ refl refl, omega (arith, c .before .before .loop-test .taken))
+    let less = c .before .before .loop-test .taken in
+    (loaded-turn (l .loop .inv .0) (omega (arith, less, s .pre .0)) (s .pre .2) _ _ refl refl, omega (arith, less))
 
 same-length : tie.Need-same-length Inv-loop μ-loop
 same-length c = c .before .loop .inv .0 .size
