@@ -1,0 +1,4 @@
+pub mod Undoing
+pub mod Keeping
+pub mod Moving
+pub mod Room
