@@ -19,15 +19,19 @@ use Rattle.rules.proofs.Widest.{tightened-right}
 use Rattle.search.specs.Search.{Outcome, Search}
 use Rattle.search.proofs.Run.{Engine, run, run-right}
 
--- bounds of a proper table are numbers of 64 bits
-proper-short : {w : List ℕ} {t : Table} → Proper w t → (i : ℕ) → at (t .hi) i < 2 ^ 64
-proper-short {w} {t} ok i = lt-of-lt-of-le (ok .bounded i .below) (pow-mono (most (decLt i (length w))))
+-- widths are at most 64, and past the last word 0
+pub width-most : {w : List ℕ} {t : Table} → Proper w t → (i : ℕ) → at w i ≤ 64
+width-most {w} ok i = go (decLt i (length w))
   where
-    most : Dec (i < length w) → at w i ≤ 64
-    most (yes l) = ok .width i l .high
-    most (no n) =
+    go : Dec (i < length w) → at w i ≤ 64
+    go (yes l) = ok .width i l .high
+    go (no n) =
         let past : length w ≤ i = omega arith in
         rw (List·getD-eq-default w 0 past) (omega arith)
+
+-- bounds of a proper table are numbers of 64 bits
+pub proper-short : {w : List ℕ} {t : Table} → Proper w t → (i : ℕ) → at (t .hi) i < 2 ^ 64
+proper-short ok i = lt-of-lt-of-le (ok .bounded i .below) (pow-mono (width-most ok i))
 
 -- going through all fits is a tightening that is right on proper tables
 pub fits-engine : (w : List ℕ) (rs : List Rule) → Engine (Tight w rs) (Proper w) (tightened w rs)

@@ -15,7 +15,7 @@ use Rattle.tighten.specs.Memory.{Loaded, Numbered, Cleared, putBounds}
 -- ---- the table put into memory
 
 pub loaded-start : (ws l : List ℕ) → Loaded 0 ws l l
-loaded-start ws l = record { size = refl; low = λ i h. absurd (omega arith); high = λ i h. absurd (omega arith) }
+loaded-start ws l = record { size = refl; rest = λ i h. refl; low = λ i h. absurd (omega arith); high = λ i h. absurd (omega arith) }
 
 module _ {i : ℕ} {ws l m : List ℕ} (x : Loaded i ws l m) (small : i < 32) (room : 64 ≤ length l)
     (a b : ℕ) (lo : a ≡ at ws (3 * i + 1)) (hi : b ≡ at ws (3 * i + 2)) where
@@ -42,6 +42,7 @@ module _ {i : ℕ} {ws l m : List ℕ} (x : Loaded i ws l m) (small : i < 32) (r
   unfolding n
   loaded-turn = record {
     size = length-set (set m i a) (i + 32) b ∙ length-set m i a ∙ x .size;
+    rest = λ k h. getD-set-other (set m i a) (i + 32) k b 0 (omega arith) ∙ getD-set-other m i k a 0 (omega arith) ∙ x .rest k h;
     low = λ k h. low k h (ℕ-discrete k i);
     high = λ k h. high k h (ℕ-discrete k i);
   }

@@ -27,7 +27,7 @@ use Rattle.tighten.proofs.Memory.{low-at, high-at, lows, highs}
 use Rattle.tighten.proofs.Buffers.{put-length}
 
 -- two series that agree are one
-series-same : {A : Type 0} (n : ℕ) (f g : ℕ → A) → ((i : ℕ) → i < n → f i ≡ g i) → series n f ≡ series n g
+pub series-same : {A : Type 0} (n : ℕ) (f g : ℕ → A) → ((i : ℕ) → i < n → f i ≡ g i) → series n f ≡ series n g
 unfolding series
 series-same zero f g h = refl
 series-same (suc n) f g h = cc (h 0 (omega arith), series-same n (λ i. f (suc i)) (λ i. g (suc i)) (λ i l. h (suc i) (omega arith)))

@@ -15,13 +15,13 @@ use Rattle.tighten.specs.Memory.{tableIn, Outside}
 
 -- ---- lists
 
-take-set-lt : {A : Type 0} (n : ℕ) (l : List A) (i : ℕ) (a : A) → i < n → take n (set l i a) ≡ set (take n l) i a
+pub take-set-lt : {A : Type 0} (n : ℕ) (l : List A) (i : ℕ) (a : A) → i < n → take n (set l i a) ≡ set (take n l) i a
 take-set-lt zero l i a h = absurd (omega arith)
 take-set-lt (suc n) [] i a h = refl
 take-set-lt (suc n) (x ∷ l) zero a h = refl
 take-set-lt (suc n) (x ∷ l) (suc i) a h = ap (λ r. x ∷ r) (take-set-lt n l i a (le-of-suc-le-suc h))
 
-drop-set-add : {A : Type 0} (k : ℕ) (l : List A) (i : ℕ) (a : A) → drop k (set l (i + k) a) ≡ set (drop k l) i a
+pub drop-set-add : {A : Type 0} (k : ℕ) (l : List A) (i : ℕ) (a : A) → drop k (set l (i + k) a) ≡ set (drop k l) i a
 drop-set-add zero l i a = ap (λ j. set l j a) (add-zero i)
 drop-set-add (suc k) [] i a = refl
 drop-set-add (suc k) (x ∷ l) i a = ap (λ j. drop (suc k) (set (x ∷ l) j a)) (add-suc i k) ∙ drop-set-add k l i a

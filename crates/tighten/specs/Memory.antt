@@ -22,9 +22,10 @@ pub record Outside (n : ℕ) (l m : List ℕ) : Type 0 where
   pub size : length m ≡ length l
   pub rest : (i : ℕ) → n ≤ i → (i < 32) ⊎ (32 + n ≤ i) → at m i ≡ at l i
 
--- the bounds of the first n words of ws stand in m, which else is as l
+-- the bounds of the first n words of ws stand in m, which behind the table is as l
 pub record Loaded (n : ℕ) (ws l m : List ℕ) : Type 0 where
   pub size : length m ≡ length l
+  pub rest : (i : ℕ) → 64 ≤ i → at m i ≡ at l i
   pub low : (i : ℕ) → i < n → at m i ≡ at ws (3 * i + 1)
   pub high : (i : ℕ) → i < n → at m (i + 32) ≡ at ws (3 * i + 2)
 

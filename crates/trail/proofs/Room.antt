@@ -10,7 +10,7 @@ use lib.Count.{ones, ones-step}
 use Rattle.words.specs.Bits.{_⊑_}
 use Rattle.words.specs.Table.{Table, Inside, at}
 use Rattle.words.specs.Count.{openBelow}
-use Rattle.words.proofs.Order.{⊑-half, ⊑-low}
+use Rattle.words.proofs.Order.{⊑-half, ⊑-low, ⊑-trans}
 use Rattle.words.proofs.Falls.{open-ones, ones-mono}
 use Rattle.trail.specs.Trail.{apart, changes}
 use Rattle.trail.proofs.Keeping.{apart-same, apart-other}
@@ -36,7 +36,7 @@ ones-apart x y h = go (ℕ-discrete x y)
     go (no d) = strict d (decLt (ones x) (ones y))
 
 -- t stands in memory as the table, c as the copy, and t lies inside c
-module _ (l : List ℕ) (t c : Table) (whole : Inside c c) (p : Inside t c) where
+module _ (l : List ℕ) (t c : Table) (p : Inside t c) where
   pub room-left : (n : ℕ) → ((i : ℕ) → i < n → at (t .lo) i ≡ at l i) → ((i : ℕ) → i < n → at (t .hi) i ≡ at l (i + 32))
       → ((i : ℕ) → i < n → at (c .lo) i ≡ at l (316 + i)) → ((i : ℕ) → i < n → at (c .hi) i ≡ at l (316 + (i + 32)))
       → changes n l + openBelow n t ≤ openBelow n c
@@ -49,7 +49,7 @@ module _ (l : List ℕ) (t c : Table) (whole : Inside c c) (p : Inside t c) wher
         arith,
         room-left n (λ i h. tl i (omega arith)) (λ i h. th i (omega arith)) (λ i h. cl i (omega arith)) (λ i h. ch i (omega arith)),
         open-ones _ _ (p .mid n),
-        open-ones _ _ (whole .mid n),
+        open-ones _ _ (⊑-trans (p .low n) (⊑-trans (p .mid n) (p .top n))),
         ones-apart _ _ (p .low n) .1,
         ones-apart _ _ (p .top n) .0,
       ))

@@ -1,0 +1,83 @@
+-- `searcher::guess::open_word` meets its contract. Assumes nothing.
+use mathlib.Core.Path.{_≡_}
+use mathlib.Core.List.{List}
+use Prim.Native.Nat.{ℕ, _+_, _-_, _≤_, _<_}
+use native.Mathlib.Omega.{arith}
+use native.Mathlib.Decide.{ℕ-discrete}
+use Rattle.words.specs.Table.{at}
+use Rattle.searcher.proofs.guess.open_word.Statement.{statement}
+use Rattle.searcher.proofs.guess.open_word.Tie as tie
+
+abbrev Inv-loop : tie.InvT-loop
+Inv-loop work n i₀ i = ((k : ℕ) → k < i → at work k ≡ at work (k + 32)) × (i ≤ n)
+
+abbrev μ-loop : tie.MeasureT-loop
+μ-loop work n i₀ i = n - i
+
+-- one word more whose bounds do not differ
+one-more : (l : List ℕ) (i : ℕ) → ((k : ℕ) → k < i → at l k ≡ at l (k + 32)) → at l i ≡ at l (i + 32)
+    → (k : ℕ) → k < i + 1 → at l k ≡ at l (k + 32)
+one-more l i below here k h = go (ℕ-discrete k i)
+  where
+    go : Dec (k ≡ i) → at l k ≡ at l (k + 32)
+    go (yes e) = rw e here
+    go (no d) = below k (omega arith)
+
+loop-holds : tie.Need-loop-holds Inv-loop μ-loop
+loop-holds c = (λ k h. absurd (omega arith), omega arith)
+
+mul-if1 : tie.Need-mul-if1 Inv-loop μ-loop
+mul-if1 c = omega arith
+
+shared-slice-read-if1 : tie.Need-shared-slice-read-if1 Inv-loop μ-loop
+shared-slice-read-if1 c = omega arith
+
+add-if1 : tie.Need-add-if1 Inv-loop μ-loop
+add-if1 c = omega arith
+
+mul-if1-2 : tie.Need-mul-if1-2 Inv-loop μ-loop
+mul-if1-2 c = omega arith
+
+shared-slice-read-if1-2 : tie.Need-shared-slice-read-if1-2 Inv-loop μ-loop
+shared-slice-read-if1-2 c = omega arith
+
+returns : tie.Need-returns Inv-loop μ-loop
+returns c =
+    let l = c .before .before .before .before in
+    record { most = l .loop .inv .1; same = l .loop .inv .0; differs = λ h. c .if1 .taken }
+
+add-i : tie.Need-add-i Inv-loop μ-loop
+add-i c = omega arith
+
+loop-less : tie.Need-loop-less Inv-loop μ-loop
+loop-less c = omega arith
+
+loop-again : tie.Need-loop-again Inv-loop μ-loop
+loop-again c =
+    let l = c .before .before .before .before in
+    let less = c .before .before .before .loop-test .taken in
+    (one-more (l .before .args .work .now) (l .loop .i) (l .loop .inv .0) (c .if1 .left), omega (arith, less))
+
+returns-2 : tie.Need-returns-2 Inv-loop μ-loop
+returns-2 c =
+    let l = c .before in
+    let e : l .before .args .n ≡ l .loop .i = omega (arith, c .loop-test .left, l .loop .inv .1) in
+    record { most = omega arith; same = λ i h. l .loop .inv .0 i (omega (arith, e)); differs = λ h. absurd (omega arith) }
+
+pub open-word-spec : {M : Type 1} → statement M
+open-word-spec =
+    tie.close
+    (tie.spec
+    Inv-loop
+    μ-loop
+    loop-holds
+    mul-if1
+    shared-slice-read-if1
+    add-if1
+    mul-if1-2
+    shared-slice-read-if1-2
+    returns
+    add-i
+    loop-less
+    loop-again
+    returns-2)

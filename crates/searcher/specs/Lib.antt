@@ -1,0 +1,3 @@
+pub mod Guessing
+pub mod Searching
+pub mod Starting
