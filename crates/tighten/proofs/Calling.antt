@@ -44,6 +44,15 @@ table-is n l f g most room low high =
 
 -- ---- before
 
+-- the rules 0 to the last, listed
+module _ (bs : List ℕ) {l m : List ℕ} (y : Numbered (ruleCount bs) l m) where
+  pub all-chosen : chosen (rulesOf bs) m (ruleCount bs) ≡ rulesOf bs
+  unfolding chosen
+  all-chosen = series-same (ruleCount bs) _ (ruleAt bs) (λ j h. ap (rule (rulesOf bs)) (y .each j h) ∙ rule-at bs j h)
+
+  pub all-listed : 64 + ruleCount bs ≤ length m → Listed bs m (ruleCount bs)
+  all-listed room = record { room = room; each = λ j h. rw (y .each j h) h }
+
 module _ {ws bs k l m : List ℕ} (given : Given ws bs k) (x : Loaded (wordCount ws) ws k l) (y : Numbered (ruleCount bs) l m) where
   pub loaded-table : tableIn (wordCount ws) m ≡ tableOf ws
   loaded-table =
@@ -51,10 +60,6 @@ module _ {ws bs k l m : List ℕ} (given : Given ws bs k) (x : Loaded (wordCount
       let r = given .room in
       table-is (wordCount ws) m (loAt ws) (hiAt ws) c (omega (arith, x .size, y .size))
       (λ i h. y .rest i (omega arith) ∙ x .low i h) (λ i h. y .rest (i + 32) (omega arith) ∙ x .high i h)
-
-  pub all-chosen : chosen (rulesOf bs) m (ruleCount bs) ≡ rulesOf bs
-  unfolding chosen
-  all-chosen = series-same (ruleCount bs) _ (ruleAt bs) (λ j h. ap (rule (rulesOf bs)) (y .each j h) ∙ rule-at bs j h)
 
   pub call-ready : Ready ws bs m
   call-ready = record {
@@ -65,10 +70,7 @@ module _ {ws bs k l m : List ℕ} (given : Given ws bs k) (x : Loaded (wordCount
   }
 
   pub call-listed : Listed bs m (ruleCount bs)
-  call-listed = record {
-    room = omega (arith, given .sized .rules, given .room, x .size, y .size);
-    each = λ j h. rw (y .each j h) h;
-  }
+  call-listed = all-listed bs y (omega (arith, given .sized .rules, given .room, x .size, y .size))
 
 -- ---- after
 
@@ -132,11 +134,11 @@ module _ {ws bs k l m n p : List ℕ} (given : Given ws bs k) (x : Loaded (wordC
 
   pub call-tight : Settled ws bs (ruleCount bs) m n true → Ended ws bs k true (putBounds (wordCount ws) n ws) p
   call-tight s =
-      ended-tight (rw (loaded-table given x y, all-chosen given x y) at (s .answer))
+      ended-tight (rw (loaded-table given x y, all-chosen bs y) at (s .answer))
       (put-bounds n ws (given .sized .words) (omega (arith, given .room, x .size, y .size, s .outside .size))) (kept (s .outside .size))
 
   pub call-conflict : Settled ws bs (ruleCount bs) m n false → Ended ws bs k false ws p
-  call-conflict s = ended-conflict (rw (loaded-table given x y, all-chosen given x y) at (s .answer)) (kept (s .outside .size))
+  call-conflict s = ended-conflict (rw (loaded-table given x y, all-chosen bs y) at (s .answer)) (kept (s .outside .size))
 
 -- ---- the answer
 

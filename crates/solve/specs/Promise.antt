@@ -1,0 +1,49 @@
+-- What the call `solve` promises: its answer, and every lent number afterwards.
+-- Assumes nothing: these are definitions.
+use mathlib.Core.Path.{_≡_}
+use mathlib.Core.List.{List}
+use Prim.Native.Nat.{ℕ, _≤_, _<_}
+use lib.Dec.{leb}
+use lib.ListN.{length}
+use Rattle.words.specs.Table.{at}
+use Rattle.rules.specs.Tight.{Tight}
+use Rattle.checker.specs.declared.Checked.{Checked}
+use Rattle.checker.specs.declared.Checked.the-variants.{Ok, Refused}
+use Rattle.checker.specs.Lent.{wordCount, widthsOf, tableOf, rulesOf}
+use Rattle.checker.specs.Demands.{SIZE}
+use Rattle.checker.specs.Refusal.{asks, _then_, refusalWith}
+use Rattle.tighten.specs.Memory.{Cleared}
+use Rattle.search.specs.Search.{Outcome, found, none, gave-up, Search}
+use Rattle.solve.specs.declared.Solved.{Solved}
+use Rattle.solve.specs.declared.Solved.the-variants as answer
+
+-- the numbers of work memory that the call asks for
+abbrev pub workLength : ℕ
+workLength = 4608
+
+-- refusal 1 for memory or a model that is too short, then the refusals of the problem and its limit
+unfoldable pub refusalHere : ℕ → List ℕ → List ℕ → List ℕ → List ℕ → Checked
+refusalHere limit ws bs model l =
+    asks SIZE (leb workLength (length l)) then asks SIZE (leb (wordCount ws) (length model)) then refusalWith limit ws bs
+
+-- nothing is refused
+pub record Given (limit : ℕ) (ws bs model l : List ℕ) : Type 0 where
+  pub passed : refusalHere limit ws bs model l ≡ Ok
+
+-- the first n numbers of v stand in the model m′, which else is as m
+pub record Stored (n : ℕ) (v m m′ : List ℕ) : Type 0 where
+  pub size : length m′ ≡ length m
+  pub each : (i : ℕ) → i < n → at m′ i ≡ at v i
+  pub rest : (i : ℕ) → n ≤ i → at m′ i ≡ at m i
+
+-- the published search of the lent problem comes to an outcome
+abbrev pub Comes : ℕ → List ℕ → List ℕ → Outcome → Type 0
+Comes limit ws bs o = Search (Tight (widthsOf ws) (rulesOf bs)) limit (tableOf ws) 0 o
+
+-- words ws, rules bs, a limit, a model m and work memory l were lent; the answer is x, and m′ and l′ stand in model and memory afterwards
+pub data Solving (limit : ℕ) (ws bs m l : List ℕ) : Solved → List ℕ → List ℕ → Type 0 where
+  refused : {n p : ℕ} → refusalHere limit ws bs m l ≡ Refused n p → Solving limit ws bs m l (answer.Refused n p) m l
+  found-first : {v m′ l′ : List ℕ} {g : ℕ} → Given limit ws bs m l → Comes limit ws bs (found v g) → Stored (wordCount ws) v m m′ → Cleared l l′
+      → Solving limit ws bs m l (answer.Found g) m′ l′
+  found-none : {l′ : List ℕ} {g : ℕ} → Given limit ws bs m l → Comes limit ws bs (none g) → Cleared l l′ → Solving limit ws bs m l (answer.Nothing g) m l′
+  gave-up-at : {l′ : List ℕ} → Given limit ws bs m l → Comes limit ws bs gave-up → Cleared l l′ → Solving limit ws bs m l (answer.GaveUp limit) m l′
