@@ -1,2 +1,5 @@
 pub mod Storing
 pub mod Calling
+pub mod Once
+pub mod Demands
+pub mod ShutOut

@@ -6,13 +6,14 @@ use Prim.Native.Nat.{ℕ, _≤_, _<_}
 use lib.Dec.{leb}
 use lib.ListN.{length}
 use Rattle.words.specs.Table.{at}
-use Rattle.rules.specs.Tight.{Tight}
+use Rattle.rules.specs.Tight.{Tight, AllHold}
 use Rattle.checker.specs.declared.Checked.{Checked}
 use Rattle.checker.specs.declared.Checked.the-variants.{Ok, Refused}
 use Rattle.checker.specs.Lent.{wordCount, widthsOf, tableOf, rulesOf}
 use Rattle.checker.specs.Demands.{SIZE}
 use Rattle.checker.specs.Refusal.{asks, _then_, refusalWith}
 use Rattle.tighten.specs.Memory.{Cleared}
+use Rattle.search.specs.Settings.{First, Without}
 use Rattle.search.specs.Search.{Outcome, found, none, gave-up, Search}
 use Rattle.solve.specs.declared.Solved.{Solved}
 use Rattle.solve.specs.declared.Solved.the-variants as answer
@@ -47,3 +48,17 @@ pub data Solving (limit : ℕ) (ws bs m l : List ℕ) : Solved → List ℕ → 
       → Solving limit ws bs m l (answer.Found g) m′ l′
   found-none : {l′ : List ℕ} {g : ℕ} → Given limit ws bs m l → Comes limit ws bs (none g) → Cleared l l′ → Solving limit ws bs m l (answer.Nothing g) m l′
   gave-up-at : {l′ : List ℕ} → Given limit ws bs m l → Comes limit ws bs gave-up → Cleared l l′ → Solving limit ws bs m l (answer.GaveUp limit) m l′
+
+-- settings of the lent problem, the first of them; and that there are none
+abbrev pub FirstSettings : List ℕ → List ℕ → List ℕ → Type 0
+FirstSettings ws bs v = First (AllHold (widthsOf ws) (rulesOf bs)) (tableOf ws) v
+
+abbrev pub NoSettings : List ℕ → List ℕ → Type 0
+NoSettings ws bs = Without (AllHold (widthsOf ws) (rulesOf bs)) (tableOf ws)
+
+-- the answer by the problem's number G of guesses: FOUND or NONE with count G where the limit reaches it, FOUND if there are settings;
+-- GAVE UP where it does not
+pub data Answered (limit G : ℕ) (ws bs : List ℕ) : Solved → Type 0 where
+  reached-found : {v : List ℕ} → G ≤ limit → FirstSettings ws bs v → Answered limit G ws bs (answer.Found G)
+  reached-none : G ≤ limit → NoSettings ws bs → Answered limit G ws bs (answer.Nothing G)
+  not-reached : limit < G → Answered limit G ws bs (answer.GaveUp limit)

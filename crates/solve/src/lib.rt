@@ -36,7 +36,8 @@ fn solve_proper(
     work: &mut [u64],
 ) -> Solved
     requires { ⌜ Given limit (now words) (now rules) (now model) (now work) ⌝ }
-    ensures { λ r. ⌜ Solving limit (now (words .entry)) (now (rules .entry)) (now (model .entry)) (now (work .entry)) r (now (model .exit)) (now (work .exit)) ⌝ }
+    ensures { λ r. ⌜ Solving limit (now (words .entry)) (now (rules .entry)) (now (model .entry)) (now (work .entry)) r (now (model .exit))
+        (now (work .exit)) ⌝ }
 {
     let c = rules.len() / 6;
     tighten::buffer::list_all(work, c);
@@ -57,10 +58,12 @@ fn solve_proper(
     }
 }
 
-// Solves a problem. FOUND: the first numbers of the model, one a word, are the first settings in word order, and the rest of it stays. NONE and GAVE UP: the model stays.
-// Work memory of at least 4,608 numbers is lent, and is all 0 after these answers; a refusal alters nothing. A limit of 0 lets tightening alone decide.
+// Solves a problem. FOUND: the first numbers of the model, one a word, are the first settings in word order, and the rest of it stays. NONE and GAVE UP: the
+// model stays. Work memory of at least 4,608 numbers is lent, and is all 0 after these answers; a refusal alters nothing. A limit of 0 lets tightening
+// alone decide.
 pub fn solve(words: &[u64], rules: &[u8], limit: u32, model: &mut [u64], work: &mut [u64]) -> Solved
-    ensures { λ r. ⌜ Solving limit (now (words .entry)) (now (rules .entry)) (now (model .entry)) (now (work .entry)) r (now (model .exit)) (now (work .exit)) ⌝ }
+    ensures { λ r. ⌜ Solving limit (now (words .entry)) (now (rules .entry)) (now (model .entry)) (now (work .entry)) r (now (model .exit))
+        (now (work .exit)) ⌝ }
 {
     if work.len() < WORK {
         return Solved::Refused(1, 0);

@@ -31,7 +31,8 @@ solve-proper-requires : tie.Need-solve-proper-requires
 solve-proper-requires c κs =
     let o = c .before .before in
     let k = o .before .before in
-    nothing-refused _ _ _ _ _ (omega (arith, k .before .before .if1 .left)) (omega (arith, k .before .if2 .left)) (sym (k .check .ensures) ∙ o .enum-told .given .1)
+    nothing-refused _ _ _ _ _ (omega (arith, k .before .before .if1 .left)) (omega (arith, k .before .if2 .left))
+    (sym (k .check .ensures) ∙ o .enum-told .given .1)
 
 same-length : tie.Need-same-length
 same-length c = search needs
