@@ -61,3 +61,8 @@ decimal-length n = digits-length 20 n
 -- and one more than its tenth
 pub decimal-longer : (n : ℕ) → 10 ≤ n → n < 2 ^ 64 → length (decimal n) ≡ length (decimal (n / 10)) + 1
 decimal-longer n h small = rw (decimal-more n h small) (length-append (decimal (n / 10)) ((48 + n % 10) ∷ []))
+
+-- and no more than k where it is below 10^k
+pub decimal-below : (k n : ℕ) → n < 10 ^ suc k → n < 2 ^ 64 → length (decimal n) ≤ suc k
+unfolding decimal
+decimal-below k n h small = rw (digits-same 19 k n (omega arith) h) (digits-length (suc k) n)

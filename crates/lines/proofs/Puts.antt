@@ -7,7 +7,7 @@ use native.Mathlib.Numerals.{add-one}
 use native.Mathlib.Omega.{arith}
 use lib.ListN.{length, take, set, getD, length-set}
 use lib.Seq.{take-suc, take-all}
-use Rattle.lines.specs.Text.{decimal, spaced, lineOf}
+use Rattle.lines.specs.Text.{decimal, items, spaced, lineOf}
 use Rattle.lines.specs.Putting.{Appended, Line}
 use Rattle.lines.proofs.Decimals.{decimal-one, decimal-more}
 use Rattle.lines.proofs.Appends.{appended-none, appended-byte, appended-both, spaced-take}
@@ -37,7 +37,7 @@ digit-behind {l} {m} {at} {e} n f h small room = rw (decimal-more n h small) (ap
 -- ---- numbers
 
 pub numbers-start : (l : List ℕ) (at : ℕ) → Appended l at (spaced []) l at
-unfolding spaced
+unfolding spaced items
 numbers-start l at = appended-none l at
 
 pub number-turn : {l m n : List ℕ} {at e r : ℕ} (ns : List ℕ) (i : ℕ) → Appended l at (spaced (take i ns)) m e → e < length m

@@ -10,7 +10,7 @@ use borrow.Author.Tests.{eqb-true}
 use lib.Dec.{eqb}
 use lib.ListN.{length, take, drop, set, getD, length-set}
 use lib.Seq.{take-suc, take-all, take-suc-set, take-take, getD-take, split-at, length-take-le, take-length}
-use Rattle.lines.specs.Text.{decimal, spaced, lineOf}
+use Rattle.lines.specs.Text.{decimal, items, spaced, lineOf}
 use Rattle.lines.specs.Reading.{NumberAt, NumbersAt, LineAt}
 use Rattle.lines.proofs.Decimals.{decimal-one, decimal-push}
 use Rattle.bytes.specs.Bytes.{slice, indexOf, indexAfter}
@@ -40,7 +40,7 @@ pub record Upto (s : List ℕ) (at e n : ℕ) (ns : List ℕ) : Type 0 where
   pub text : take e s ≡ take at s ++ spaced (take n ns)
 
 pub upto-start : (s ns : List ℕ) (at : ℕ) → at ≤ length s → Upto s at at 0 ns
-unfolding spaced
+unfolding spaced items
 upto-start s ns at h = record { room = omega arith; within = h; text = sym (append-nil (take at s)) }
 
 pub upto-turn : {s ns : List ℕ} {at e n v r : ℕ} → Upto s at e n ns → e < length s → getD s e 0 ≡ 32 → n < length ns → NumberAt s (e + 1) v r

@@ -1,7 +1,7 @@
 // Lines of text: a name, a word and decimal numbers, parted by one blank each. A line is read into a lent list of numbers, and put into lent bytes;
 // one definition, `lineOf`, says what both are.
 mod list;
-mod number;
+pub mod number;
 
 pub use list::all;
 pub use list::list_end;
@@ -49,7 +49,7 @@ pub fn parse(line: &[u8], numbers: &mut [u64]) -> Parsed
 }
 
 // The bytes of s put at `at`: where they end.
-fn put(out: &mut [u8], at: usize, s: &[u8]) -> usize
+pub fn put(out: &mut [u8], at: usize, s: &[u8]) -> usize
     requires { ⌜ at + length (now s) ≤ length (now out) ⌝ }
     ensures { λ r. ⌜ Appended (now (out .entry)) at (now (s .entry)) (now (out .exit)) r ⌝ }
 {

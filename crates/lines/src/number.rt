@@ -88,7 +88,7 @@ pub fn read_all(s: &[u8], at: usize, out: &mut [u64]) -> Numbers
 }
 
 // The digits of n put at `at`: where they end.
-fn put(out: &mut [u8], at: usize, n: u64) -> usize
+pub fn put(out: &mut [u8], at: usize, n: u64) -> usize
     requires { ⌜ at + length (decimal n) ≤ length (now out) ⌝ }
     ensures { λ r. ⌜ Appended (now (out .entry)) at (decimal n) (now (out .exit)) r ⌝ }
 {
