@@ -1,69 +1,66 @@
+-- `report::line::put_binary` meets its contract: the digits passed are put. Assumes nothing.
+use mathlib.Core.Path.{_≡_, refl}
+use Prim.Native.Nat.{_+_, _-_, _≤_}
+use native.Mathlib.Omega.{arith}
+use borrow.Author.Needs.{needs}
+use lib.ListN.{length, take, length-set}
+use Rattle.lines.specs.Putting.{Appended}
+use Rattle.lines.proofs.Puts.{bytes-start}
+use Rattle.report.specs.Text.{binary}
+use Rattle.report.proofs.Binary.{binary-turn, binary-end}
 use Rattle.report.proofs.line.put_binary.Statement.{statement}
 use Rattle.report.proofs.line.put_binary.Tie as tie
-use Rattle.report.proofs.line.put_binary.Reads as reads
-use Rattle.report.proofs.line.put_binary.Lts as lts
 
 abbrev Inv-loop : tie.InvT-loop
-Inv-loop out₀ at width value i₀ out i = ?
+Inv-loop out₀ at width value i₀ out i = Appended out₀ at (take i (binary width value)) out (at + i) × (length out ≡ length out₀) × (i ≤ width)
 
 abbrev μ-loop : tie.MeasureT-loop
-μ-loop out₀ at width value i₀ out i = ?
+μ-loop out₀ at width value i₀ out i = width - i
 
--- src/line.rt:16:5
 loop-holds : tie.Need-loop-holds Inv-loop μ-loop
-loop-holds c = ?
+loop-holds c = (bytes-start _ (binary (c .args .width) (c .args .value)) _, refl, omega arith)
 
--- src/line.rt:17:40
 sub-out : tie.Need-sub-out Inv-loop μ-loop
-sub-out c = ?
+sub-out c = search needs
 
--- src/line.rt:17:40
 sub-out-2 : tie.Need-sub-out-2 Inv-loop μ-loop
-sub-out-2 c = ?
+sub-out-2 c = search needs
 
--- src/line.rt:17:30
 shr-out : tie.Need-shr-out Inv-loop μ-loop
-shr-out c = ?
+shr-out c = search needs
 
--- src/line.rt:17:28
 cast-out : tie.Need-cast-out Inv-loop μ-loop
-cast-out c = ?
+cast-out c = search needs
 
--- src/line.rt:17:23
 add-out : tie.Need-add-out Inv-loop μ-loop
-add-out c = ?
+add-out c = search needs
 
--- src/line.rt:17:13
 add-out-2 : tie.Need-add-out-2 Inv-loop μ-loop
-add-out-2 c = ?
+add-out-2 c = search needs
 
--- src/line.rt:17:9
 slice-write-out : tie.Need-slice-write-out Inv-loop μ-loop
-slice-write-out c = ?
+slice-write-out c = search needs
 
--- src/line.rt:18:9
 add-i : tie.Need-add-i Inv-loop μ-loop
-add-i c = ?
+add-i c = search needs
 
--- src/line.rt:16:5
 loop-less : tie.Need-loop-less Inv-loop μ-loop
-loop-less c = ?
+loop-less c = search needs
 
--- src/line.rt:16:5
 loop-again : tie.Need-loop-again Inv-loop μ-loop
-loop-again c = ?
+loop-again c =
+    let l = c .before in
+    let s = l .before in
+    (binary-turn (s .args .width) (s .args .value) (l .loop .i) (l .loop .inv .0) (omega arith) (omega (arith, s .pre)), simp length-set (l .loop .inv .1), omega arith)
 
--- src/line.rt:20:5
 add-result : tie.Need-add-result Inv-loop μ-loop
-add-result c = ?
+add-result c = search needs
 
--- src/line.rt:11:1
 same-length : tie.Need-same-length Inv-loop μ-loop
-same-length c = ?
+same-length c = search needs
 
--- src/line.rt:11:1
 returns : tie.Need-returns Inv-loop μ-loop
-returns c = ?
+returns c = binary-end _ _ _ (c .before .loop .inv .0) (c .loop-test .left)
 
 pub put-binary-spec : {M : Type 1} → statement M
 put-binary-spec =

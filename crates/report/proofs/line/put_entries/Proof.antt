@@ -1,63 +1,72 @@
+-- `report::line::put_entries` meets its contract: the entries passed are put, of at most five digits each. Assumes nothing.
+use mathlib.Core.Path.{_≡_, refl, sym, subst, _∙_}
+use Prim.Native.Nat.{_+_, _-_, _*_, _≤_}
+use native.Mathlib.Omega.{arith}
+use borrow.Author.Needs.{needs}
+use lib.ListN.{length, take, getD, length-set}
+use Rattle.lines.specs.Text.{spaced}
+use Rattle.lines.specs.Putting.{Appended}
+use Rattle.lines.proofs.Decimals.{decimal-below}
+use Rattle.lines.proofs.Puts.{numbers-start}
+use Rattle.report.proofs.Puts.{entry-turn, entries-end}
 use Rattle.report.proofs.line.put_entries.Statement.{statement}
 use Rattle.report.proofs.line.put_entries.Tie as tie
-use Rattle.report.proofs.line.put_entries.Reads as reads
-use Rattle.report.proofs.line.put_entries.Lts as lts
-use Rattle.lines.proofs.number.put.Reads as put-reads
-use Rattle.report.proofs.line.wide.Reads as wide-reads
 
 abbrev Inv-loop : tie.InvT-loop
-Inv-loop out₀ at list n i₀ e₀ out i e = ?
+Inv-loop out₀ at list n i₀ e₀ out i e = Appended out₀ at (spaced (take i list)) out e × (length out ≡ length out₀) × (i ≤ n) × (e ≤ at + 6 * i)
 
 abbrev μ-loop : tie.MeasureT-loop
-μ-loop out₀ at list n i₀ e₀ out i e = ?
+μ-loop out₀ at list n i₀ e₀ out i e = n - i
 
--- src/line.rt:32:5
 loop-holds : tie.Need-loop-holds Inv-loop μ-loop
-loop-holds c = ?
+loop-holds c = (numbers-start _ _, refl, omega arith, omega arith)
 
--- src/line.rt:33:9
 slice-write-out : tie.Need-slice-write-out Inv-loop μ-loop
-slice-write-out c = ?
+slice-write-out c = search needs
 
--- src/line.rt:34:37
 add-put : tie.Need-add-put Inv-loop μ-loop
-add-put c = ?
+add-put c = search needs
 
--- src/line.rt:34:49
 mul-wide : tie.Need-mul-wide Inv-loop μ-loop
-mul-wide c = ?
+mul-wide c = search needs
 
--- src/line.rt:34:49
 shared-slice-read-wide : tie.Need-shared-slice-read-wide Inv-loop μ-loop
-shared-slice-read-wide c = ?
+shared-slice-read-wide c = search needs
 
--- src/line.rt:34:44
 wide-requires : tie.Need-wide-requires Inv-loop μ-loop
-wide-requires c κs = ?
+wide-requires c κs = search needs
 
--- src/line.rt:34:9
 put-requires : tie.Need-put-requires Inv-loop μ-loop
-put-requires c κs = ?
+put-requires c κs =
+    let l = c .before .before .before .before in
+    let s = l .before .before .before in
+    simp length-set (omega (arith, s .pre, decimal-below 4 (c .wide .result) (omega arith) (omega arith)))
 
--- src/line.rt:35:9
 add-i : tie.Need-add-i Inv-loop μ-loop
-add-i c = ?
+add-i c = search needs
 
--- src/line.rt:32:5
 loop-less : tie.Need-loop-less Inv-loop μ-loop
-loop-less c = ?
+loop-less c = search needs
 
--- src/line.rt:32:5
 loop-again : tie.Need-loop-again Inv-loop μ-loop
-loop-again c = ?
+loop-again c =
+    let p = c .before .before in
+    let w = p .before in
+    let l = w .before .before .before .before in
+    let s = l .before .before .before in (
+      entry-turn (s .args .list .now) (l .loop .i) (w .wide .result) (l .loop .inv .0) (omega (arith, s .pre)) (p .put .ensures) (w .wide .ensures .0) (omega (arith, s .pre)),
+      p .put .kept .0 ∙ simp length-set (l .loop .inv .1),
+      omega arith,
+      omega (arith, l .loop .inv .3, p .put .ensures .ends, decimal-below 4 (w .wide .result) (omega arith) (omega arith)),
+    )
 
--- src/line.rt:24:1
 same-length : tie.Need-same-length Inv-loop μ-loop
-same-length c = ?
+same-length c = search needs
 
--- src/line.rt:24:1
 returns : tie.Need-returns Inv-loop μ-loop
-returns c = ?
+returns c =
+    let l = c .before in
+    (entries-end _ _ _ (l .loop .inv .0) (l .loop .inv .2) (c .loop-test .left), omega arith)
 
 pub put-entries-spec : {M : Type 1} → statement M
 put-entries-spec =

@@ -1,4 +1,7 @@
+-- `report::line::put_line` meets its contract. Assumes nothing.
+use native.Mathlib.Omega.{arith}
 use borrow.Author.Needs.{needs}
+use Rattle.report.proofs.Puts.{line-put}
 use Rattle.report.proofs.line.put_line.Statement.{statement}
 use Rattle.report.proofs.line.put_line.Tie as tie
 use Rattle.report.proofs.line.put_line.Reads as reads
@@ -28,7 +31,11 @@ same-length c = search needs
 
 -- src/line.rt:47:1
 returns : tie.Need-returns
-returns c = ?
+returns c =
+    let e = c .before .before in
+    let b = e .before .before .before .before .before in
+    let a = b .before .before .before .before in
+    (line-put _ _ (a .put .ensures) (b .put-all .ensures .0) (e .put2 .ensures), omega (arith, a .put .ensures .ends, b .put-all .ensures .1, e .put2 .ensures .ends))
 
 pub put-line-spec : {M : Type 1} → statement M
 put-line-spec =
