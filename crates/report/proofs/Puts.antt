@@ -30,6 +30,10 @@ pub entries-end : {l m : List ℕ} {at e : ℕ} (ns : List ℕ) (i n : ℕ) → 
     → Appended l at (spaced (take n ns)) m e
 entries-end {l} {m} {at} {e} ns i n f p q = let z : i ≡ n = omega arith in subst (λ k. Appended l at (spaced (take k ns)) m e) z f
 
+pub spaced-one : (n : ℕ) → length (spaced (n ∷ [])) ≡ length (decimal n) + 1
+unfolding spaced items
+spaced-one n = rw (append-nil (decimal n)) (omega arith)
+
 -- number, width, value
 word-line : (i w v : ℕ) → decimal i ++ (spaced (w ∷ []) ++ ((32 ∷ []) ++ (binary w v ++ (10 ∷ [])))) ≡ wordLine i w v
 unfolding line items spaced

@@ -4,32 +4,22 @@ use borrow.Author.Needs.{needs}
 use Rattle.report.proofs.Puts.{line-put}
 use Rattle.report.proofs.line.put_line.Statement.{statement}
 use Rattle.report.proofs.line.put_line.Tie as tie
-use Rattle.report.proofs.line.put_line.Reads as reads
-use Rattle.report.proofs.line.put_line.Lts as lts
-use Rattle.lines.proofs.number.put_all.Reads as put-all-reads
-use Rattle.lines.proofs.put.Reads as put-reads
 
--- src/line.rt:54:9
 put-requires : tie.Need-put-requires
 put-requires c κs = search needs
 
--- src/line.rt:55:9
 put-all-requires : tie.Need-put-all-requires
 put-all-requires c κs = search needs
 
--- src/line.rt:56:24
 slice-aggregate-put : tie.Need-slice-aggregate-put
 slice-aggregate-put c = search needs
 
--- src/line.rt:56:5
 put-requires-2 : tie.Need-put-requires-2
 put-requires-2 c κs = search needs
 
--- src/line.rt:47:1
 same-length : tie.Need-same-length
 same-length c = search needs
 
--- src/line.rt:47:1
 returns : tie.Need-returns
 returns c =
     let e = c .before .before in

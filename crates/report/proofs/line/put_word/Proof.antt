@@ -1,0 +1,100 @@
+-- `report::line::put_word` meets its contract: at most 2, 3, 1, 64 and 1 bytes are put. Assumes nothing.
+use Prim.Native.Nat.{_+_, _≤_}
+use native.Mathlib.Omega.{arith}
+use borrow.Author.Needs.{needs}
+use Rattle.lines.proofs.Decimals.{decimal-below}
+use Rattle.report.proofs.Binary.{length-binary}
+use Rattle.report.proofs.Puts.{spaced-one, word-put}
+use Rattle.report.proofs.line.put_word.Statement.{statement}
+use Rattle.report.proofs.line.put_word.Tie as tie
+
+-- where the number and the width end
+number-end : (c : tie.After-put) → c .put .result ≤ c .before .before .before .args .at + 2
+number-end c =
+    let s = c .before .before .before in
+    let p = s .pre in
+    omega (arith, c .put .ensures .ends, decimal-below 1 (s .args .number) (omega arith) (omega arith))
+
+width-end : (c : tie.After-put-all) → c .put-all .result ≤ c .before .before .before .before .before .before .before .before .args .at + 5
+width-end c =
+    let a = c .before .before .before .before .before in
+    let s = a .before .before .before in
+    let p = s .pre in
+    omega (arith, c .put-all .ensures .0 .ends, spaced-one (s .args .width), decimal-below 1 (s .args .width) (omega arith) (omega arith), number-end a)
+
+put-requires : tie.Need-put-requires
+put-requires c κs =
+    let s = c .before .before in
+    let p = s .pre in
+    omega (arith, decimal-below 1 (s .args .number) (omega arith) (omega arith))
+
+slice-aggregate-put-all : tie.Need-slice-aggregate-put-all
+slice-aggregate-put-all c = search needs
+
+put-all-requires : tie.Need-put-all-requires
+put-all-requires c κs =
+    let a = c .before .before .before .before in
+    omega (arith, a .before .before .before .pre, number-end a, a .put .kept .0)
+
+slice-aggregate-put : tie.Need-slice-aggregate-put
+slice-aggregate-put c = search needs
+
+put-requires-2 : tie.Need-put-requires-2
+put-requires-2 c κs =
+    let b = c .before .before .before .before in
+    let a = b .before .before .before .before .before in
+    omega (arith, a .before .before .before .pre, width-end b, a .put .kept .0, b .put-all .kept .0)
+
+put-binary-requires : tie.Need-put-binary-requires
+put-binary-requires c κs =
+    let d = c .before .before .before in
+    let b = d .before .before .before .before .before in
+    let a = b .before .before .before .before .before in
+    let p = a .before .before .before .pre in
+    (p .1, omega (arith, width-end b, d .put2 .ensures .ends, a .put .kept .0, b .put-all .kept .0, d .put2 .kept .0))
+
+slice-aggregate-put-2 : tie.Need-slice-aggregate-put-2
+slice-aggregate-put-2 c = search needs
+
+put-requires-3 : tie.Need-put-requires-3
+put-requires-3 c κs =
+    let f = c .before .before .before .before in
+    let d = f .before .before .before .before in
+    let b = d .before .before .before .before .before in
+    let a = b .before .before .before .before .before in
+    let s = a .before .before .before in
+    let p = s .pre in
+    let n = length-binary (s .args .width) (s .args .value) in
+    omega (arith, width-end b, d .put2 .ensures .ends, f .put-binary .ensures .ends, a .put .kept .0, b .put-all .kept .0, d .put2 .kept .0, f .put-binary .kept .0)
+
+same-length : tie.Need-same-length
+same-length c = search needs
+
+returns : tie.Need-returns
+returns c =
+    let g = c .before .before in
+    let f = g .before .before .before .before .before in
+    let d = f .before .before .before .before in
+    let b = d .before .before .before .before .before in
+    let a = b .before .before .before .before .before in
+    let s = a .before .before .before in
+    let p = s .pre in
+    let n = length-binary (s .args .width) (s .args .value) in (
+      word-put _ _ _ (a .put .ensures) (b .put-all .ensures .0) (d .put2 .ensures) (f .put-binary .ensures) (g .put3 .ensures),
+      omega (arith, width-end b, d .put2 .ensures .ends, f .put-binary .ensures .ends, g .put3 .ensures .ends),
+    )
+
+pub put-word-spec : {M : Type 1} → statement M
+put-word-spec =
+    tie.close
+    (tie.spec
+    put-requires
+    slice-aggregate-put-all
+    put-all-requires
+    slice-aggregate-put
+    put-requires-2
+    put-binary-requires
+    slice-aggregate-put-2
+    put-requires-3
+    same-length
+    returns)
