@@ -1,3 +1,4 @@
 pub mod Binary
 pub mod Puts
+pub mod Reports
 pub mod Cases
