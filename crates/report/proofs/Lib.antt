@@ -1,4 +1,5 @@
 pub mod Binary
 pub mod Puts
 pub mod Reports
+pub mod Once
 pub mod Cases

@@ -13,6 +13,12 @@ ghost use Rattle.lines.specs.Putting.{Appended};
 ghost use Rattle.report.specs.Text.{wordLines, causeLine, named, unnamed, sat, unsat, unknown, refused};
 ghost use Rattle.report.specs.Printed.{most, Printed, Valued};
 
+// The answer: the lines stand in front of the lent bytes, so many; or the number of a refusal of what was lent, and its place.
+pub enum Advised {
+    Lines(usize),
+    Refused(u64, u64),
+}
+
 // Numbers a word: width, lo, hi.
 const STRIDE: usize = 3;
 

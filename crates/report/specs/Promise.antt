@@ -1,0 +1,57 @@
+-- What the call `advise` promises: which report a file gets, and every lent byte and number afterwards.
+-- Assumes nothing: these are definitions.
+use mathlib.Core.Path.{_≡_}
+use mathlib.Core.List.{List}
+use Prim.Native.Nat.{ℕ, _≤_}
+use lib.ListN.{length}
+use Rattle.checker.specs.declared.Checked.{Checked}
+use Rattle.checker.specs.Lent.{widthsOf, tableOf, rulesOf}
+use Rattle.tighten.specs.Memory.{Cleared}
+use Rattle.search.specs.Search.{found, none, gave-up}
+use Rattle.causes.specs.Cause.{CAUSE, GAVE-UP, Causes}
+use Rattle.solve.specs.Promise.{Comes}
+use Rattle.blocks.specs.declared.Reading.{Reading}
+use Rattle.blocks.specs.Bytes.{zeros}
+use Rattle.blocks.specs.Edition.{edition1}
+use Rattle.blocks.specs.Written.{IsFile}
+use Rattle.blocks.specs.Promise.{Reads}
+use Rattle.report.specs.declared.Advised.{Advised}
+use Rattle.report.specs.declared.Advised.the-variants as answer
+use Rattle.report.specs.Text.{Report, sat, unsat, named, unnamed, unknown, refused}
+use Rattle.report.specs.Printed.{most, Printed}
+
+-- the numbers of work memory that the call asks for
+abbrev pub workLength : ℕ
+workLength = 5120
+
+-- enough bytes and enough work memory were lent
+pub record Lent (l k : List ℕ) : Type 0 where
+  pub bytes : most ≤ length l
+  pub work : workLength ≤ length k
+
+-- what a problem's own search and, after NONE, the procedure for its cause come to
+pub data Answers (limit : ℕ) (ws bs : List ℕ) : Report → Type 0 where
+  found-first : {v : List ℕ} {g : ℕ} → Comes limit ws bs (found v g) → Answers limit ws bs (sat g (widthsOf ws) v)
+  none-named : {rules : List ℕ} {g sum : ℕ} → Comes limit ws bs (none g) → Causes (widthsOf ws) (rulesOf bs) limit (tableOf ws) (CAUSE rules sum)
+      → Answers limit ws bs (unsat g (named sum rules))
+  none-unnamed : {g sum : ℕ} → Comes limit ws bs (none g) → Causes (widthsOf ws) (rulesOf bs) limit (tableOf ws) (GAVE-UP sum)
+      → Answers limit ws bs (unsat g (unnamed sum))
+  gave-up-at : Comes limit ws bs gave-up → Answers limit ws bs (unknown limit)
+
+-- memory for 32 words and for 252 rules
+abbrev pub noWords : List ℕ
+noWords = zeros 96
+
+abbrev pub noRules : List ℕ
+noRules = zeros 1512
+
+-- the report on a file: the number and the place with which reading it is refused; or what its problem is answered
+pub data Reports (f : List ℕ) : Report → Type 0 where
+  unread : {n i : ℕ} → Reads edition1 f noWords noRules noWords noRules (Reading.Refused n i) → Reports f (refused n i)
+  answered : {limit : ℕ} {ws bs : List ℕ} {x : Report} → IsFile edition1 limit ws bs f → edition1 .judge limit ws bs ≡ Checked.Ok → Answers limit ws bs x
+      → Reports f x
+
+-- bytes l and work memory k were lent with the file f; the answer is r, and m and n stand in bytes and memory afterwards
+pub data Advises (f l k : List ℕ) : Advised → List ℕ → List ℕ → Type 0 where
+  size : ¬ Lent l k → Advises f l k (answer.Refused 1 0) l k
+  lines : {x : Report} {m n : List ℕ} {e : ℕ} → Lent l k → Reports f x → Printed x l m e → Cleared k n → Advises f l k (answer.Lines e) m n
