@@ -1,0 +1,55 @@
+// What a rule says of the bit that is asked for, and whether an answer stays.
+use crate::Question;
+use crate::Said;
+use crate::places;
+ghost use mathlib.Core.Path.{_≡_};
+ghost use Rattle.hull.specs.Narrowing.{spanOf};
+ghost use Rattle.reasons.specs.Says.{Says};
+ghost use Rattle.explain.specs.Asking.{shapeIn, placeIn, answer, Asks, Decides};
+
+// CONFLICT where the rule has no fit, FORCED where the hull of the fits has one value for the bit, else FREE.
+pub fn says(q: Question, t: hull::Bounds) -> Said
+    requires { ⌜ Asks q t ⌝ }
+    ensures { λ r. ⌜ Says (shapeIn q) (spanOf t) (placeIn q) (q .bit) (answer r) ⌝ }
+{
+    let o = hull::narrow(q.kind as usize, q.k, q.w, t);
+    if !o.fit {
+        return Said::Conflict;
+    }
+    let l = places::bit_of(places::low(o.t, q.place), q.bit);
+    let h = places::bit_of(places::high(o.t, q.place), q.bit);
+    if l == h {
+        return Said::Forced(l);
+    }
+    Said::Free
+}
+
+// Whether two answers are the same: FORCED is so with the same value only.
+fn is_same(x: Said, y: Said) -> bool
+    ensures { λ r. ⌜ Decides (answer x ≡ answer y) r ⌝ }
+{
+    if let Said::Conflict = x {
+        if let Said::Conflict = y {
+            return true;
+        }
+        return false;
+    }
+    let Said::Forced(v) = x else {
+        if let Said::Free = y {
+            return true;
+        }
+        return false;
+    };
+    let Said::Forced(u) = y else {
+        return false;
+    };
+    v == u
+}
+
+// Whether the answer over the bounds t is x.
+pub fn stays(q: Question, x: Said, t: hull::Bounds) -> bool
+    requires { ⌜ Asks q t ⌝ }
+    ensures { λ r. ⌜ Decides (Says (shapeIn q) (spanOf t) (placeIn q) (q .bit) (answer x)) r ⌝ }
+{
+    is_same(x, says(q, t))
+}
