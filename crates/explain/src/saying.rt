@@ -28,22 +28,23 @@ pub fn says(q: Question, t: hull::Bounds) -> Said
 fn is_same(x: Said, y: Said) -> bool
     ensures { λ r. ⌜ Decides (answer x ≡ answer y) r ⌝ }
 {
-    if let Said::Conflict = x {
-        if let Said::Conflict = y {
-            return true;
-        }
-        return false;
+    match x {
+        Said::Conflict => match y {
+            Said::Conflict => true,
+            Said::Forced(_) => false,
+            Said::Free => false,
+        },
+        Said::Forced(v) => match y {
+            Said::Conflict => false,
+            Said::Forced(u) => v == u,
+            Said::Free => false,
+        },
+        Said::Free => match y {
+            Said::Conflict => false,
+            Said::Forced(_) => false,
+            Said::Free => true,
+        },
     }
-    let Said::Forced(v) = x else {
-        if let Said::Free = y {
-            return true;
-        }
-        return false;
-    };
-    let Said::Forced(u) = y else {
-        return false;
-    };
-    v == u
 }
 
 // Whether the answer over the bounds t is x.

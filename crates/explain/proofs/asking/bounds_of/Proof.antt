@@ -1,3 +1,4 @@
+use Rattle.explain.specs.Reading.{boundsIn}
 use borrow.Author.Needs.{needs}
 use Rattle.explain.proofs.asking.bounds_of.Statement.{statement}
 use Rattle.explain.proofs.asking.bounds_of.Tie as tie
@@ -56,7 +57,8 @@ number-of-requires-8 c κs = search needs
 
 -- src/asking.rt:25:1
 returns : tie.Need-returns
-returns c = ?
+unfolding boundsIn
+returns c = let n7 = c .before in let n6 = n7 .before in let n5 = n6 .before in let n4 = n5 .before in let n3 = n4 .before in let n2 = n3 .before in let n1 = n2 .before in let f4 = n1 .before in let f3 = f4 .before in let f2 = f3 .before in let f1 = f2 .before in rw (n1 .number-of .ensures, n2 .number-of2 .ensures, n3 .number-of3 .ensures, n4 .number-of4 .ensures, n5 .number-of5 .ensures, n6 .number-of6 .ensures, n7 .number-of7 .ensures, c .number-of8 .ensures, f1 .field .ensures .0, f2 .field2 .ensures .0, f3 .field3 .ensures .0, f4 .field4 .ensures .0)
 
 pub bounds-of-spec : {M : Type 1} → statement M
 bounds-of-spec =

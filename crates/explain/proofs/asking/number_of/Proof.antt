@@ -1,3 +1,5 @@
+use mathlib.Core.Path.{sym}
+use lib.ListN.{List·getD-eq-default}
 use borrow.Author.Needs.{needs}
 use Rattle.explain.proofs.asking.number_of.Statement.{statement}
 use Rattle.explain.proofs.asking.number_of.Tie as tie
@@ -26,7 +28,7 @@ returns c = search needs
 
 -- src/asking.rt:16:1
 returns-2 : tie.Need-returns-2
-returns-2 c = ?
+returns-2 c = sym (List·getD-eq-default (c .before .args .words .now) 0 (c .if1 .left))
 
 pub number-of-spec : {M : Type 1} → statement M
 number-of-spec =

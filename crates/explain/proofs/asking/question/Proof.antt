@@ -1,3 +1,4 @@
+use Rattle.explain.proofs.Calling.{question-read}
 use borrow.Author.Needs.{needs}
 use Rattle.explain.proofs.asking.question.Statement.{statement}
 use Rattle.explain.proofs.asking.question.Tie as tie
@@ -20,7 +21,7 @@ field-requires-2 c κs = search needs
 
 -- src/asking.rt:46:1
 returns : tie.Need-returns
-returns c = ?
+returns c = let f = c .before in let w = f .before in question-read _ _ _ _ _ (w .widths-of .result) (f .field .result) (c .field2 .result) (w .widths-of .ensures) (f .field .ensures .0) (c .field2 .ensures .0)
 
 pub question-spec : {M : Type 1} → statement M
 question-spec = tie.close (tie.spec widths-of-requires field-requires field-requires-2 returns)

@@ -1,3 +1,6 @@
+use borrow.Author.Tests.{not-true, not-false}
+use Rattle.explain.proofs.Answers.{decided, refuted}
+use Rattle.explain.proofs.Passing.{open-passed, has-room, wider-asks, bit-dropped, bit-kept}
 use borrow.Author.Needs.{needs}
 use Rattle.explain.proofs.dropping.drop_bit.Statement.{statement}
 use Rattle.explain.proofs.dropping.drop_bit.Tie as tie
@@ -27,7 +30,7 @@ bit-of-requires-2 c κs = search needs
 
 -- src/dropping.rt:22:9
 returns : tie.Need-returns
-returns c = ?
+returns c = let b = c .before in let g = b .before in let a = g .before in let l = a .before in open-passed (l .before .before .pre) (l .low .ensures) (a .bit-of .ensures) (g .high .ensures) (b .bit-of2 .ensures) (c .if1 .taken)
 
 -- src/dropping.rt:26:9
 open-at-requires : tie.Need-open-at-requires
@@ -35,11 +38,11 @@ open-at-requires c κs = search needs
 
 -- src/dropping.rt:27:8
 stays-requires : tie.Need-stays-requires
-stays-requires c κs = ?
+stays-requires c κs = let e = c .before .before in let b = e .before in let g = b .before in let a = g .before in let l = a .before in wider-asks (l .before .before .pre) (l .low .ensures) (a .bit-of .ensures) (g .high .ensures) (b .bit-of2 .ensures) (e .if1 .left) (c .open-at .result) (c .open-at .ensures)
 
 -- src/dropping.rt:28:9
 returns-2 : tie.Need-returns-2
-returns-2 c = ?
+returns-2 c = let o = c .before .before in let e = o .before .before in let b = e .before in let g = b .before in let a = g .before in let l = a .before in bit-dropped (l .before .before .pre) (l .low .ensures) (a .bit-of .ensures) (g .high .ensures) (b .bit-of2 .ensures) (e .if1 .left) (o .open-at .result) (o .open-at .ensures) (decided (c .before .stays .ensures) (c .if2 .taken))
 
 -- src/dropping.rt:30:16
 mul-list : tie.Need-mul-list
@@ -59,7 +62,7 @@ mul-list-2 c = search needs
 
 -- src/dropping.rt:30:5
 slice-write-list : tie.Need-slice-write-list
-slice-write-list c = ?
+slice-write-list c = let o = c .before .before in let e = o .before .before in let b = e .before in let g = b .before in let a = g .before in let l = a .before in has-room (l .before .before .pre) (l .low .ensures) (a .bit-of .ensures) (g .high .ensures) (b .bit-of2 .ensures) (e .if1 .left)
 
 -- src/dropping.rt:31:22
 add-t18 : tie.Need-add-t18
@@ -71,7 +74,7 @@ same-length c = search needs
 
 -- src/dropping.rt:17:1
 returns-3 : tie.Need-returns-3
-returns-3 c = ?
+returns-3 c = let o = c .before .before in let e = o .before .before in let b = e .before in let g = b .before in let a = g .before in let l = a .before in bit-kept (l .before .before .pre) (l .low .ensures) (a .bit-of .ensures) (g .high .ensures) (b .bit-of2 .ensures) (e .if1 .left) (o .open-at .result) (o .open-at .ensures) (refuted (c .before .stays .ensures) (c .if2 .left))
 
 pub drop-bit-spec : {M : Type 1} → statement M
 drop-bit-spec =

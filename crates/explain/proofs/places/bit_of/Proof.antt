@@ -1,3 +1,4 @@
+use Rattle.words.specs.Bits.{bit}
 use borrow.Author.Needs.{needs}
 use Rattle.explain.proofs.places.bit_of.Statement.{statement}
 use Rattle.explain.proofs.places.bit_of.Tie as tie
@@ -10,7 +11,8 @@ shr-result c = search needs
 
 -- src/places.rt:10:1
 returns : tie.Need-returns
-returns c = ?
+unfolding bit
+returns c = search needs
 
 pub bit-of-spec : {M : Type 1} → statement M
 bit-of-spec = tie.close (tie.spec shr-result returns)

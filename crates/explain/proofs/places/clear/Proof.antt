@@ -1,3 +1,5 @@
+use mathlib.Core.Path.{sym, _∙_}
+use Rattle.explain.proofs.Opening.{clear-one, clear-none}
 use borrow.Author.Needs.{needs}
 use Rattle.explain.proofs.places.clear.Statement.{statement}
 use Rattle.explain.proofs.places.clear.Tie as tie
@@ -20,11 +22,11 @@ fix-zero-requires c κs = search needs
 
 -- src/places.rt:54:1
 returns : tie.Need-returns
-returns c = ?
+returns c = let t = c .before in c .fix-zero .ensures ∙ clear-one _ _ (sym (t .before .bit-of .ensures) ∙ t .if1 .taken)
 
 -- src/places.rt:54:1
 returns-2 : tie.Need-returns-2
-returns-2 c = ?
+returns-2 c = clear-none _ _ (λ e. c .if1 .left (c .before .bit-of .ensures ∙ e))
 
 pub clear-spec : {M : Type 1} → statement M
 clear-spec = tie.close (tie.spec bit-of-requires cast-fix-zero fix-zero-requires returns returns-2)

@@ -1,3 +1,5 @@
+use mathlib.Core.Path.{sym, _∙_}
+use Rattle.explain.proofs.Opening.{fill-one, fill-none}
 use borrow.Author.Needs.{needs}
 use Rattle.explain.proofs.places.fill.Statement.{statement}
 use Rattle.explain.proofs.places.fill.Tie as tie
@@ -20,11 +22,11 @@ fix-one-requires c κs = search needs
 
 -- src/places.rt:66:1
 returns : tie.Need-returns
-returns c = ?
+returns c = let t = c .before in c .fix-one .ensures ∙ fill-one _ _ (sym (t .before .bit-of .ensures) ∙ t .if1 .taken)
 
 -- src/places.rt:66:1
 returns-2 : tie.Need-returns-2
-returns-2 c = ?
+returns-2 c = fill-none _ _ (λ e. c .if1 .left (c .before .bit-of .ensures ∙ e))
 
 pub fill-spec : {M : Type 1} → statement M
 fill-spec = tie.close (tie.spec bit-of-requires cast-fix-one fix-one-requires returns returns-2)

@@ -1,3 +1,5 @@
+use borrow.Author.Tests.{not-true, not-false}
+use Rattle.explain.proofs.Answers.{narrow-conflict, narrow-forced, narrow-free}
 use borrow.Author.Needs.{needs}
 use Rattle.explain.proofs.saying.says.Statement.{statement}
 use Rattle.explain.proofs.saying.says.Tie as tie
@@ -14,7 +16,7 @@ narrow-requires c κs = search needs
 
 -- src/saying.rt:17:9
 returns : tie.Need-returns
-returns c = ?
+returns c = let n = c .before .before in narrow-conflict (n .narrow .ensures) _ _ (not-true _ (c .if1 .taken))
 
 -- src/saying.rt:19:28
 low-requires : tie.Need-low-requires
@@ -34,11 +36,11 @@ bit-of-requires-2 c κs = search needs
 
 -- src/saying.rt:22:9
 returns-2 : tie.Need-returns-2
-returns-2 c = ?
+returns-2 c = let h = c .before in let g = h .before in let l = g .before in let k = l .before in let e = k .before in let n = e .before .before in narrow-forced (n .narrow .ensures) _ _ (not-false _ (e .if1 .left)) (n .before .pre .used) (k .low .ensures) (l .bit-of .ensures) (g .high .ensures) (h .bit-of2 .ensures) (c .if2 .taken)
 
 -- src/saying.rt:11:1
 returns-3 : tie.Need-returns-3
-returns-3 c = ?
+returns-3 c = let h = c .before in let g = h .before in let l = g .before in let k = l .before in let e = k .before in let n = e .before .before in narrow-free (n .narrow .ensures) _ _ (not-false _ (e .if1 .left)) (n .before .pre .used) (k .low .ensures) (l .bit-of .ensures) (g .high .ensures) (h .bit-of2 .ensures) (c .if2 .left)
 
 pub says-spec : {M : Type 1} → statement M
 says-spec =

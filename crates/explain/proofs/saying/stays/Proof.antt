@@ -1,3 +1,4 @@
+use Rattle.explain.proofs.Answers.{compared-stays}
 use borrow.Author.Needs.{needs}
 use Rattle.explain.proofs.saying.stays.Statement.{statement}
 use Rattle.explain.proofs.saying.stays.Tie as tie
@@ -16,7 +17,7 @@ is-same-requires c κs = search needs
 
 -- src/saying.rt:50:1
 returns : tie.Need-returns
-returns c = ?
+returns c = compared-stays (c .before .says .ensures) (c .is-same .ensures)
 
 pub stays-spec : {M : Type 1} → statement M
 stays-spec = tie.close (tie.spec says-requires is-same-requires returns)

@@ -1,0 +1,53 @@
+-- Whether a question asks for an open bit: what the code finds at the place it names.
+-- Assumes nothing.
+use mathlib.Core.Path.{_≡_, refl, sym, ap, _∙_, subst}
+use mathlib.Core.Logic.{_≢_}
+use mathlib.Core.Bool.{Bool, true, false}
+use Prim.Native.Nat.{ℕ, _+_, _≤_, _<_}
+use native.Mathlib.Omega.{arith}
+use lib.Dec.{T, eqb}
+use borrow.Author.Tests.{eqb-true, eqb-false}
+use Rattle.words.specs.Bits.{bit}
+use Rattle.words.proofs.Order.{bit-lt}
+use Rattle.rules.specs.Kinds.{Kind}
+use Rattle.rules.specs.Rows.{uses}
+use Rattle.rules.specs.Meaning.{Shape}
+use Rattle.rules.specs.Fits.{Span, Uses}
+use Rattle.checker.specs.Rows.{usesField}
+use Rattle.explain.specs.Places.{last, placeOf}
+use Rattle.explain.specs.Asking.{OpenBit, Decides, holds, fails}
+use Rattle.explain.proofs.PlaceNumbers.{place-field}
+
+-- whether a place is used, read from the field of its word
+module _ (κ : Kind) {p : ℕ} (l : p ≤ last) {r : Bool} (e : r ≡ usesField κ (p + 1)) where
+  pub place-used : r ≡ true → T (uses κ (placeOf p))
+  place-used t = subst T (sym t ∙ e ∙ place-field κ p l) tt
+
+  pub place-is-used : r ≡ true → uses κ (placeOf p) ≡ true
+  place-is-used t = sym (place-field κ p l) ∙ sym e ∙ t
+
+  pub place-unused : r ≡ false → uses κ (placeOf p) ≡ false
+  place-unused f = sym (place-field κ p l) ∙ sym e ∙ f
+
+module _ (σ : Shape) (t : Span) (p j : ℕ) where
+  pub not-used : uses (σ .kind) (placeOf p) ≡ false → Decides (OpenBit σ t p j) false
+  not-used e = fails (λ o. subst T e (o .used))
+
+  pub not-open : {a l : ℕ} → a ≡ t .lo (placeOf p) → l ≡ bit a j → l ≡ 1 → Decides (OpenBit σ t p j) false
+  not-open ea el e = fails (λ o. let z : bit (t .lo (placeOf p)) j ≡ 1 = ap (λ (m : ℕ). bit m j) (sym ea) ∙ sym el ∙ e in omega (arith, o .off))
+
+  -- all but the high bound was looked at
+  pub top-decides : p ≤ last → Uses σ (placeOf p) → j < σ .width (placeOf p) → {a b l h : ℕ} → a ≡ t .lo (placeOf p) → l ≡ bit a j
+      → l ≢ 1 → b ≡ t .hi (placeOf p) → h ≡ bit b j → Decides (OpenBit σ t p j) (eqb h 1)
+  top-decides k u w {a} {b} {l} {h} ea el d eb eh = go (eqb h 1) refl
+    where
+      low : l ≡ bit (t .lo (placeOf p)) j
+      low = el ∙ ap (λ (m : ℕ). bit m j) ea
+
+      high : h ≡ bit (t .hi (placeOf p)) j
+      high = eh ∙ ap (λ (m : ℕ). bit m j) eb
+
+      go : (c : Bool) → eqb h 1 ≡ c → Decides (OpenBit σ t p j) c
+      go true e =
+          holds (record { place = k; used = u; below = w; off = omega (arith, low, bit-lt (t .lo (placeOf p)) j); on = sym high ∙ eqb-true h 1 e })
+      go false e = fails (λ o. eqb-false h 1 e (high ∙ o .on))

@@ -1,0 +1,51 @@
+use borrow.Author.Needs.{needs}
+use Rattle.explain.proofs.explain.Statement.{statement}
+use Rattle.explain.proofs.explain.Tie as tie
+use Rattle.explain.proofs.explain.Reads as reads
+use Rattle.explain.proofs.explain.Lts as lts
+use Rattle.checker.proofs.first_refusal.Reads as first-refusal-reads
+use Rattle.explain.proofs.explain_proper.Reads as explain-proper-reads
+
+-- src/lib.rt:89:9
+returns : tie.Need-returns
+returns c = ?
+
+-- src/lib.rt:91:9
+first-refusal-requires : tie.Need-first-refusal-requires
+first-refusal-requires c κs = search needs
+
+-- src/lib.rt:92:38
+enum-known-x : tie.Need-enum-known-x
+enum-known-x c = search needs
+
+-- src/lib.rt:93:9
+returns-2 : tie.Need-returns-2
+returns-2 c = ?
+
+enum-told : tie.Need-enum-told
+enum-told c = search needs
+
+-- src/lib.rt:95:5
+explain-proper-requires : tie.Need-explain-proper-requires
+explain-proper-requires c κs = ?
+
+-- src/lib.rt:85:1
+same-length : tie.Need-same-length
+same-length c = search needs
+
+-- src/lib.rt:85:1
+returns-3 : tie.Need-returns-3
+returns-3 c = ?
+
+pub explain-spec : {M : Type 1} → statement M
+explain-spec =
+    tie.close
+    (tie.spec
+    returns
+    first-refusal-requires
+    enum-known-x
+    returns-2
+    enum-told
+    explain-proper-requires
+    same-length
+    returns-3)
