@@ -42,7 +42,7 @@ use Rattle.explain.proofs.Answers.{conflict-free, forced-free}
 
 -- ---- the answer for an open bit
 
-module _ {q : Question} {t : Bounds} {x : Said} (s : Says (shapeIn q) (spanOf t) (placeIn q) (q .bit) (answer x)) {l : List ℕ} where
+module _ (q : Question) (t : Bounds) {x : Said} (s : Says (shapeIn q) (spanOf t) (placeIn q) (q .bit) (answer x)) (l : List ℕ) where
   pub given-free : x ≡ said.Free → Given (shapeIn q) (spanOf t) (placeIn q) (q .bit) l explained.Free l
   given-free e = record { answer = FREE; out = []; explains = no-reason (rw e at s); told = refl; list = refl }
 
@@ -83,23 +83,23 @@ module _ {ws bs l : List ℕ} (taken : Taken ws bs l) {n : ℕ} (there : n < rul
   widths-same : widthsIn ws bs n ≡ widthsAt (widthsOf ws) (ruleAt bs n)
   unfolding widthsIn
   widths-same = λ i. record {
-    r = width-at ws (taken .sized .whole-words) (ruleAt bs n .r) (~ i);
-    a = width-at ws (taken .sized .whole-words) (ruleAt bs n .a) (~ i);
-    b = width-at ws (taken .sized .whole-words) (ruleAt bs n .b) (~ i);
-    s = width-at ws (taken .sized .whole-words) (ruleAt bs n .s) (~ i);
+    r = sym (width-at ws (taken .sized .whole-words) (ruleAt bs n .r)) i;
+    a = sym (width-at ws (taken .sized .whole-words) (ruleAt bs n .a)) i;
+    b = sym (width-at ws (taken .sized .whole-words) (ruleAt bs n .b)) i;
+    s = sym (width-at ws (taken .sized .whole-words) (ruleAt bs n .s)) i;
   }
 
   bounds-same : boundsIn ws bs n ≡ boundsAt (tableOf ws) (ruleAt bs n)
   unfolding boundsIn
   bounds-same = λ i. record {
-    rl = lo-at ws (taken .sized .whole-words) (ruleAt bs n .r) (~ i);
-    rh = hi-at ws (taken .sized .whole-words) (ruleAt bs n .r) (~ i);
-    al = lo-at ws (taken .sized .whole-words) (ruleAt bs n .a) (~ i);
-    ah = hi-at ws (taken .sized .whole-words) (ruleAt bs n .a) (~ i);
-    bl = lo-at ws (taken .sized .whole-words) (ruleAt bs n .b) (~ i);
-    bh = hi-at ws (taken .sized .whole-words) (ruleAt bs n .b) (~ i);
-    sl = lo-at ws (taken .sized .whole-words) (ruleAt bs n .s) (~ i);
-    sh = hi-at ws (taken .sized .whole-words) (ruleAt bs n .s) (~ i);
+    rl = sym (lo-at ws (taken .sized .whole-words) (ruleAt bs n .r)) i;
+    rh = sym (hi-at ws (taken .sized .whole-words) (ruleAt bs n .r)) i;
+    al = sym (lo-at ws (taken .sized .whole-words) (ruleAt bs n .a)) i;
+    ah = sym (hi-at ws (taken .sized .whole-words) (ruleAt bs n .a)) i;
+    bl = sym (lo-at ws (taken .sized .whole-words) (ruleAt bs n .b)) i;
+    bh = sym (hi-at ws (taken .sized .whole-words) (ruleAt bs n .b)) i;
+    sl = sym (lo-at ws (taken .sized .whole-words) (ruleAt bs n .s)) i;
+    sh = sym (hi-at ws (taken .sized .whole-words) (ruleAt bs n .s)) i;
   }
 
   module _ (p j : ℕ) {q : Question} {t : Bounds} (eq : q ≡ questionIn ws bs n p j) (et : t ≡ boundsIn ws bs n) where
@@ -122,7 +122,7 @@ module _ {ws bs l : List ℕ} (taken : Taken ws bs l) {n : ℕ} (there : n < rul
     -- the question names no open bit
     pub open-refused : ¬ OpenBit (shapeIn q) (spanOf t) (q .place) (q .bit) → Judged ws bs n p j l (explained.Refused 10 0) l
     unfolding questionIn
-    open-refused d = not-asked (λ a. d (rw (eq, shape-same, span-same) (a .open-bit)))
+    open-refused d = not-asked (λ a. d (rw (shape-same, span-same, eq) (a .open-bit)))
 
     module _ (o : OpenBit (shapeIn q) (spanOf t) (q .place) (q .bit)) where
       pub open-asks : Asks q t
@@ -143,7 +143,7 @@ rule-refused n p j h = not-asked (λ a. omega (arith, a .there))
 
 -- ---- the refusals before the question
 
-module _ {ws bs l : List ℕ} (n p j : ℕ) where
+module _ (ws bs l : List ℕ) (n p j : ℕ) where
   pub short-refused : length l < entries → Explaining ws bs n p j l (explained.Refused 1 0) l
   unfolding refusalHere
   short-refused h = refused {number = 1} {place = 0} (rw (lt-leb entries (length l) h))

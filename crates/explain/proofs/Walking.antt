@@ -98,7 +98,7 @@ begun t = record { t = t; count = 0 }
 abbrev pub bits : Question → Bounds → ℕ → List Spot
 bits q t p = fixedAt (shapeIn q) (spanOf t) (placeOf p)
 
-module _ {q : Question} {t : Bounds} (asks : Asks q t) (l : List ℕ) (room : entries ≤ length l) where
+module _ {q : Question} {t : Bounds} (asks : Asks q t) where
   four : fixedOf (shapeIn q) (spanOf t) ≡ ((bits q t 0 ++ bits q t 1) ++ bits q t 2) ++ bits q t 3
   unfolding fixedOf placeOf
   four = simp append-assoc
@@ -106,8 +106,9 @@ module _ {q : Question} {t : Bounds} (asks : Asks q t) (l : List ℕ) (room : en
   pub enough : length (bits q t 0) + (length (bits q t 1) + (length (bits q t 2) + length (bits q t 3))) ≤ entries
   enough = omega (arith, simp (four, length-append) at (fixed-length (asks .legal)))
 
+module _ {q : Question} {t : Bounds} (asks : Asks q t) {l : List ℕ} (room : entries ≤ length l) where
   pub first-asked : PlaceAsked q t (begun t) 0 l
-  first-asked = record { asks = asks; place = omega arith; room = omega (arith, enough) }
+  first-asked = record { asks = asks; place = omega arith; room = omega (arith, enough asks) }
 
   pub next-asked : {x : Said} {ns : List Spot} {r : Kept} {m : List ℕ} (p : ℕ) → p ≤ last → length ns + length (bits q t p) ≤ entries → Gone q x ns (begun t) l r m
       → PlaceAsked q t r p m
@@ -120,10 +121,10 @@ module _ {q : Question} {t : Bounds} (asks : Asks q t) (l : List ℕ) (room : en
   pub all-gone : {x : Said} {r : Kept} {m : List ℕ} → Gone q x (((bits q t 0 ++ bits q t 1) ++ bits q t 2) ++ bits q t 3) (begun t) l r m → Reasoned q x t l (r .count) m
   all-gone g =
       let few = g .few in
-      let all : length (((bits q t 0 ++ bits q t 1) ++ bits q t 2) ++ bits q t 3) ≤ entries = simp length-append (omega (arith, enough)) in
+      let all : length (((bits q t 0 ++ bits q t 1) ++ bits q t 2) ++ bits q t 3) ≤ entries = simp length-append (omega (arith, enough asks)) in
       record {
         out = g .out;
-        reason = rw four (passed-reason (g .passed));
+        reason = rw (four asks) (passed-reason (g .passed));
         count = g .count ∙ zero-add (length (g .out));
         list = g .list ∙ sets-eq (g .out) l 0 (omega arith) ∙ rw (zero-add (length (g .out)));
       }

@@ -1,3 +1,13 @@
+use mathlib.Core.Path.{_≡_, refl}
+use mathlib.Core.Logic.{⊎-elim}
+use mathlib.Core.List.{[], _∷_}
+use native.Mathlib.Omega.{arith}
+use denote.Enum.Declared.{tagOf}
+use types.Run.{OneOf}
+use Rattle.explain.specs.declared.Said.{Said}
+use Rattle.explain.specs.declared.Said.the-variants as said
+use Rattle.explain.proofs.Said.{the-type}
+use Rattle.explain.proofs.Calling.{given-free, given-conflict, given-forced}
 use borrow.Author.Needs.{needs}
 use Rattle.explain.proofs.answered.Statement.{statement}
 use Rattle.explain.proofs.answered.Tie as tie
@@ -5,6 +15,12 @@ use Rattle.explain.proofs.answered.Reads as reads
 use Rattle.explain.proofs.answered.Lts as lts
 use Rattle.explain.proofs.dropping.reason.Reads as reason-reads
 use Rattle.explain.proofs.saying.says.Reads as says-reads
+
+-- an answer that is neither CONFLICT nor FORCED
+free-left : (x : Said) → OneOf (1 ∷ 2 ∷ []) (tagOf the-type x) → OneOf (0 ∷ 2 ∷ []) (tagOf the-type x) → x ≡ said.Free
+free-left said.Conflict h k = absurd (⊎-elim (λ e. omega arith) (λ e. omega arith) h)
+free-left (said.Forced v) h k = absurd (⊎-elim (λ e. omega arith) (λ e. omega arith) k)
+free-left said.Free h k = refl
 
 -- src/lib.rt:55:9
 says-requires : tie.Need-says-requires
@@ -24,7 +40,7 @@ same-length c = search needs
 
 -- src/lib.rt:57:9
 returns : tie.Need-returns
-returns c = ?
+returns c = let r = c .before .before in let e = r .before .before in let s = e .before .before in let a = s .before .before .args in given-conflict (a .q) (a .t) (s .says .ensures) _ (r .reason .ensures) (e .enum-told .given .1)
 
 -- src/lib.rt:59:22
 enum-known-x : tie.Need-enum-known-x
@@ -32,7 +48,7 @@ enum-known-x c = search needs
 
 -- src/lib.rt:60:9
 returns-2 : tie.Need-returns-2
-returns-2 c = ?
+returns-2 c = let s = c .before .before in let a = s .before .before .args in given-free (a .q) (a .t) (s .says .ensures) _ (free-left (s .says .result) (c .before .match .keys2) (c .match2 .keys2))
 
 -- src/lib.rt:62:30
 reason-requires-2 : tie.Need-reason-requires-2
@@ -44,7 +60,7 @@ same-length-2 c = search needs
 
 -- src/lib.rt:51:1
 returns-3 : tie.Need-returns-3
-returns-3 c = ?
+returns-3 c = let r = c .before .before in let x = r .before .before .before in let s = x .before .before .before in let a = s .before .before .args in given-forced (a .q) (a .t) (rw (x .x .given .1) at (s .says .ensures)) _ (r .reason2 .ensures) _ refl
 
 pub answered-spec : {M : Type 1} → statement M
 answered-spec =
