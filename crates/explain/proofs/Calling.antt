@@ -6,6 +6,7 @@ use mathlib.Core.Bool.{Bool, true, false}
 use mathlib.Core.List.{List, [], _∷_}
 use Prim.Native.Nat.{ℕ, zero, suc, _+_, _*_, _≤_, _<_}
 use native.Mathlib.Nat.{add-zero}
+use native.Mathlib.Decide.{decLe}
 use native.Mathlib.Omega.{arith}
 use lib.ListN.{length, getD}
 use borrow.Author.Tests.{le-leb, lt-leb}
@@ -163,3 +164,18 @@ module _ (ws bs l : List ℕ) (n p j : ℕ) where
 
     pub problem-judged : {r : Explained} {m : List ℕ} → refusal ws bs ≡ Ok → Judged ws bs n p j l r m → Explaining ws bs n p j l r m
     problem-judged e d = judged (here ∙ e) d
+
+-- a problem that is not refused is proper
+pub here-taken : (ws bs l : List ℕ) → refusalHere ws bs l ≡ Ok → Taken ws bs l
+unfolding refusalHere
+here-taken ws bs l e = go (decLe entries (length l))
+  where
+    short : length l < entries → Ok ≡ Refused 1 0
+    short q = sym e ∙ rw (lt-leb entries (length l) q)
+
+    differs : Ok ≡ Refused 1 0 → ⊥
+    differs d = let z : _≡_ {A = ℕ} 0 1 = cc in omega arith
+
+    go : Dec (entries ≤ length l) → Taken ws bs l
+    go (yes h) = problem-taken ws bs l 0 0 0 h (sym (here ws bs l 0 0 0 h) ∙ e)
+    go (no h) = absurd (differs (short (omega arith)))

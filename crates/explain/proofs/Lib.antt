@@ -5,3 +5,5 @@ pub mod Questions
 pub mod Passing
 pub mod Walking
 pub mod Calling
+pub mod Once
+pub mod Reasons

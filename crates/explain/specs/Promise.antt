@@ -37,6 +37,11 @@ given CONFLICT c = explained.Conflict c
 given (FORCED b) c = explained.Forced b c
 given FREE c = explained.Free
 
+-- an answer that has a reason, and the number of its entries
+pub data Tells : Explained → Answer → ℕ → Type 0 where
+  tells-conflict : {c : ℕ} → Tells (explained.Conflict c) CONFLICT c
+  tells-forced : {b c : ℕ} → Tells (explained.Forced b c) (FORCED b) c
+
 -- the rule of shape σ over the bounds t is explained at bit j of place p: r comes back, and m stands in the list l afterwards
 pub record Given (σ : Shape) (t : Span) (p : Place) (j : ℕ) (l : List ℕ) (r : Explained) (m : List ℕ) : Type 0 where
   pub answer : Answer

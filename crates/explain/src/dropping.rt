@@ -14,7 +14,15 @@ ghost use Rattle.explain.specs.Dropping.{spotAt, BitAsked, PlaceAsked, G
 ghost use Rattle.explain.specs.Promise.{entries};
 
 // Bit b of place p, if the bounds g have it fixed, is dropped where the answer stays, else listed.
-fn drop_bit(list: &mut [u16], q: Question, x: Said, g: hull::Bounds, s: Kept, p: u64, b: u64) -> Kept
+fn drop_bit(
+    list: &mut [u16],
+    q: Question,
+    x: Said,
+    g: hull::Bounds,
+    s: Kept,
+    p: u64,
+    b: u64,
+) -> Kept
     requires { ⌜ BitAsked q g s p b (now list) ⌝ }
     ensures { λ r. ⌜ Gone q x (spotAt (spanOf g) (placeOf p) b) s (now (list .entry)) r (now (list .exit)) ⌝ }
 {

@@ -63,7 +63,14 @@ fn answered(list: &mut [u16], q: Question, t: hull::Bounds) -> Explained
 }
 
 // The answer over a proper problem: refusal 10, or what rule n says of the bit.
-fn explain_proper(words: &[u64], rules: &[u8], rule: u64, place: u64, bit: u64, list: &mut [u16]) -> Explained
+fn explain_proper(
+    words: &[u64],
+    rules: &[u8],
+    rule: u64,
+    place: u64,
+    bit: u64,
+    list: &mut [u16],
+) -> Explained
     requires { ⌜ Taken (now words) (now rules) (now list) ⌝ }
     ensures { λ r. ⌜ Judged (now (words .entry)) (now (rules .entry)) rule place bit (now (list .entry)) r (now (list .exit)) ⌝ }
 {
@@ -82,7 +89,14 @@ fn explain_proper(words: &[u64], rules: &[u8], rule: u64, place: u64, bit: u64, 
 // Explains one open bit at one place (0 r, 1 a, 2 b, 3 s) of a rule, over the table as given. CONFLICT and FORCED: the reason stands in the list, each fixed bit
 // as 64 times place plus bit, and its number of entries comes back; the rest of the list stays. FREE and every refusal leave the list as it was. Room for 193
 // entries is lent; no other memory is needed.
-pub fn explain(words: &[u64], rules: &[u8], rule: u64, place: u64, bit: u64, list: &mut [u16]) -> Explained
+pub fn explain(
+    words: &[u64],
+    rules: &[u8],
+    rule: u64,
+    place: u64,
+    bit: u64,
+    list: &mut [u16],
+) -> Explained
     ensures { λ r. ⌜ Explaining (now (words .entry)) (now (rules .entry)) rule place bit (now (list .entry)) r (now (list .exit)) ⌝ }
 {
     if list.len() < ENTRIES {

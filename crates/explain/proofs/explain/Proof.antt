@@ -1,41 +1,31 @@
+-- `explain::explain` meets its contract. Assumes nothing.
 use mathlib.Core.Path.{sym, _∙_}
-use Rattle.explain.proofs.Calling.{short-refused, problem-refused, problem-taken, problem-judged}
 use borrow.Author.Needs.{needs}
+use Rattle.explain.proofs.Calling.{short-refused, problem-refused, problem-taken, problem-judged}
 use Rattle.explain.proofs.explain.Statement.{statement}
 use Rattle.explain.proofs.explain.Tie as tie
-use Rattle.explain.proofs.explain.Reads as reads
-use Rattle.explain.proofs.explain.Lts as lts
-use Rattle.checker.proofs.first_refusal.Reads as first-refusal-reads
-use Rattle.explain.proofs.explain_proper.Reads as explain-proper-reads
 
--- src/lib.rt:89:9
 returns : tie.Need-returns
 returns c = short-refused _ _ _ _ _ _ (c .if1 .taken)
 
--- src/lib.rt:91:9
 first-refusal-requires : tie.Need-first-refusal-requires
 first-refusal-requires c κs = search needs
 
--- src/lib.rt:92:38
 enum-known-x : tie.Need-enum-known-x
 enum-known-x c = search needs
 
--- src/lib.rt:93:9
 returns-2 : tie.Need-returns-2
 returns-2 c = let f = c .before .before .before in problem-refused _ _ _ _ _ _ (f .before .if1 .left) (sym (f .first-refusal .ensures) ∙ c .before .x .given .1)
 
 enum-told : tie.Need-enum-told
 enum-told c = search needs
 
--- src/lib.rt:95:5
 explain-proper-requires : tie.Need-explain-proper-requires
 explain-proper-requires c κs = let e = c .before in let f = e .before .before in let a = f .before .before .before .before .before .args in problem-taken _ _ _ (a .rule) (a .place) (a .bit) (f .before .if1 .left) (sym (f .first-refusal .ensures) ∙ e .enum-told .given .1)
 
--- src/lib.rt:85:1
 same-length : tie.Need-same-length
 same-length c = search needs
 
--- src/lib.rt:85:1
 returns-3 : tie.Need-returns-3
 returns-3 c = let r = c .before .before in let e = r .before .before in let f = e .before .before in problem-judged _ _ _ _ _ _ (f .before .if1 .left) (sym (f .first-refusal .ensures) ∙ e .enum-told .given .1) (r .explain-proper .ensures)
 

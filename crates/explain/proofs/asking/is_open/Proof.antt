@@ -1,19 +1,13 @@
+-- `explain::asking::is_open` meets its contract. Assumes nothing.
 use Prim.Native.Nat.{_<_}
 use native.Mathlib.Omega.{arith}
 use borrow.Author.Tests.{not-true, not-false}
+use borrow.Author.Needs.{needs}
 use Rattle.rules.specs.Kinds.{kindOf}
 use Rattle.explain.specs.Asking.{fails}
 use Rattle.explain.proofs.Questions.{place-used, place-unused, not-used, not-open, top-decides}
-use borrow.Author.Needs.{needs}
 use Rattle.explain.proofs.asking.is_open.Statement.{statement}
 use Rattle.explain.proofs.asking.is_open.Tie as tie
-use Rattle.explain.proofs.asking.is_open.Reads as reads
-use Rattle.explain.proofs.asking.is_open.Lts as lts
-use Rattle.checker.proofs.rows.used.Reads as used-reads
-use Rattle.explain.proofs.places.bit_of.Reads as bit-of-reads
-use Rattle.explain.proofs.places.high.Reads as high-reads
-use Rattle.explain.proofs.places.low.Reads as low-reads
-use Rattle.explain.proofs.places.width.Reads as width-reads
 
 -- the bit is below the width of a place in use, so below 64
 small : (c : tie.Else3) → c .before .before .before .before .before .before .before .args .q .bit < 64
@@ -26,51 +20,39 @@ small c =
     let k = place-used (kindOf (s .args .q .kind)) (l .if1 .left) (u .used .ensures) (not-false _ (e .if2 .left)) in
     omega (arith, c .if3 .left, w .width .ensures, s .pre .1 .width _ k .high)
 
--- src/asking.rt:72:9
 returns : tie.Need-returns
 returns c = fails (λ o. omega (arith, o .place, c .if1 .taken))
 
--- src/asking.rt:74:37
 add-used : tie.Need-add-used
 add-used c = search needs
 
--- src/asking.rt:74:9
 used-requires : tie.Need-used-requires
 used-requires c κs = search needs
 
--- src/asking.rt:75:9
 returns-2 : tie.Need-returns-2
 returns-2 c = let u = c .before in let l = u .before in let a = l .before .before .args in not-used _ _ (a .q .place) _ (place-unused (kindOf (a .q .kind)) (l .if1 .left) (u .used .ensures) (not-true _ (c .if2 .taken)))
 
--- src/asking.rt:77:8
 width-requires : tie.Need-width-requires
 width-requires c κs = search needs
 
--- src/asking.rt:78:9
 returns-3 : tie.Need-returns-3
 returns-3 c = fails (λ o. omega (arith, o .below, c .if3 .taken, c .before .before .width .ensures))
 
--- src/asking.rt:80:23
 low-requires : tie.Need-low-requires
 low-requires c κs = search needs
 
--- src/asking.rt:80:8
 bit-of-requires : tie.Need-bit-of-requires
 bit-of-requires c κs = small (c .before)
 
--- src/asking.rt:81:9
 returns-4 : tie.Need-returns-4
 returns-4 c = let b = c .before in let l = b .before in not-open _ _ _ _ (l .low .ensures) (b .bit-of .ensures) (c .if4 .taken)
 
--- src/asking.rt:83:20
 high-requires : tie.Need-high-requires
 high-requires c κs = search needs
 
--- src/asking.rt:83:5
 bit-of-requires-2 : tie.Need-bit-of-requires-2
 bit-of-requires-2 c κs = small (c .before .before .before .before)
 
--- src/asking.rt:67:1
 returns-5 : tie.Need-returns-5
 returns-5 c = let g = c .before in let e4 = g .before in let b = e4 .before in let l = b .before in let e3 = l .before in let w = e3 .before .before in let e2 = w .before in let u = e2 .before in let e1 = u .before in let s = e1 .before .before in top-decides _ _ _ _ (e1 .if1 .left) (place-used (kindOf (s .args .q .kind)) (e1 .if1 .left) (u .used .ensures) (not-false _ (e2 .if2 .left))) (omega (arith, e3 .if3 .left, w .width .ensures)) (l .low .ensures) (b .bit-of .ensures) (e4 .if4 .left) (g .high .ensures) (c .bit-of2 .ensures)
 

@@ -1,25 +1,18 @@
-use Rattle.explain.proofs.Calling.{question-read}
+-- `explain::asking::question` meets its contract. Assumes nothing.
 use borrow.Author.Needs.{needs}
+use Rattle.explain.proofs.Calling.{question-read}
 use Rattle.explain.proofs.asking.question.Statement.{statement}
 use Rattle.explain.proofs.asking.question.Tie as tie
-use Rattle.explain.proofs.asking.question.Reads as reads
-use Rattle.explain.proofs.asking.question.Lts as lts
-use Rattle.checker.proofs.rule.field.Reads as field-reads
-use Rattle.checker.proofs.rule.widths_of.Reads as widths-of-reads
 
--- src/asking.rt:50:9
 widths-of-requires : tie.Need-widths-of-requires
 widths-of-requires c κs = search needs
 
--- src/asking.rt:58:15
 field-requires : tie.Need-field-requires
 field-requires c κs = search needs
 
--- src/asking.rt:59:12
 field-requires-2 : tie.Need-field-requires-2
 field-requires-2 c κs = search needs
 
--- src/asking.rt:46:1
 returns : tie.Need-returns
 returns c = let f = c .before in let w = f .before in question-read _ _ _ _ _ (w .widths-of .result) (f .field .result) (c .field2 .result) (w .widths-of .ensures) (f .field .ensures .0) (c .field2 .ensures .0)
 

@@ -1,36 +1,27 @@
-use mathlib.Core.List.{_++_}
+-- `explain::dropping::reason` meets its contract. Assumes nothing.
 use native.Mathlib.Omega.{arith}
 use lib.ListN.{length-append}
-use Rattle.explain.proofs.Passing.{gone-then}
-use Rattle.explain.proofs.Walking.{bits, enough, first-asked, next-asked, all-gone}
 use borrow.Author.Needs.{needs}
+use Rattle.explain.proofs.Passing.{gone-then}
+use Rattle.explain.proofs.Walking.{enough, first-asked, next-asked, all-gone}
 use Rattle.explain.proofs.dropping.reason.Statement.{statement}
 use Rattle.explain.proofs.dropping.reason.Tie as tie
-use Rattle.explain.proofs.dropping.reason.Reads as reads
-use Rattle.explain.proofs.dropping.reason.Lts as lts
-use Rattle.explain.proofs.dropping.drop_place.Reads as drop-place-reads
 
--- src/dropping.rt:58:9
 drop-place-requires : tie.Need-drop-place-requires
 drop-place-requires c κs = first-asked (c .before .before .pre .0) (c .before .before .pre .1)
 
--- src/dropping.rt:59:9
 drop-place-requires-2 : tie.Need-drop-place-requires-2
 drop-place-requires-2 c κs = let r = c .before .before .before in let s = r .before .before .before in next-asked (s .pre .0) (s .pre .1) 1 (omega arith) (omega (arith, enough (s .pre .0))) (r .drop-place .ensures)
 
--- src/dropping.rt:60:9
 drop-place-requires-3 : tie.Need-drop-place-requires-3
 drop-place-requires-3 c κs = let a = c .before .before .before in let r = a .before .before .before .before in let s = r .before .before .before in next-asked (s .pre .0) (s .pre .1) 2 (omega arith) (simp length-append (omega (arith, enough (s .pre .0)))) (gone-then (r .drop-place .ensures) (a .drop-place2 .ensures))
 
--- src/dropping.rt:61:9
 drop-place-requires-4 : tie.Need-drop-place-requires-4
 drop-place-requires-4 c κs = let b = c .before .before .before in let a = b .before .before .before .before in let r = a .before .before .before .before in let s = r .before .before .before in next-asked (s .pre .0) (s .pre .1) 3 (omega arith) (simp length-append (omega (arith, enough (s .pre .0)))) (gone-then (gone-then (r .drop-place .ensures) (a .drop-place2 .ensures)) (b .drop-place3 .ensures))
 
--- src/dropping.rt:53:1
 same-length : tie.Need-same-length
 same-length c = search needs
 
--- src/dropping.rt:53:1
 returns : tie.Need-returns
 returns c = let d = c .before .before in let b = d .before .before .before .before in let a = b .before .before .before .before in let r = a .before .before .before .before in let s = r .before .before .before in all-gone (s .pre .0) (s .pre .1) (gone-then (gone-then (gone-then (r .drop-place .ensures) (a .drop-place2 .ensures)) (b .drop-place3 .ensures)) (d .drop-place4 .ensures))
 
