@@ -1,6 +1,6 @@
 -- What the narrowing of a rule says of a bit is what the rule says of it; and whether an answer stays is told by comparing it with the one that is found.
 -- Assumes nothing.
-use mathlib.Core.Path.{_≡_, refl, sym, ap, _∙_, subst}
+use mathlib.Core.Path.{_≡_, refl, sym, ap, subst}
 use mathlib.Core.Logic.{_≢_}
 use mathlib.Core.Bool.{Bool, true, false}
 use Prim.Native.Nat.{ℕ}
@@ -36,20 +36,14 @@ module _ {σ : Shape} {t : Span} {o : Narrowed} (n : Narrows σ t o) (p : Place)
   pub narrow-conflict : o .fit ≡ false → Says σ t p j CONFLICT
   narrow-conflict e = says-conflict (n .none e)
 
-  -- a and b are the bounds of the hull at p, l and h their bits
-  module _ (e : o .fit ≡ true) (u : Uses σ p) {a b l h : ℕ} (ea : a ≡ loOf (o .t) p) (el : l ≡ bit a j) (eb : b ≡ hiOf (o .t) p) (eh : h ≡ bit b j) where
-    low-bit : l ≡ bit (loOf (o .t) p) j
-    low-bit = el ∙ ap (λ (m : ℕ). bit m j) ea
-
-    high-bit : h ≡ bit (hiOf (o .t) p) j
-    high-bit = eh ∙ ap (λ (m : ℕ). bit m j) eb
-
+  -- l and h are the bits of the hull's bounds at p
+  module _ (e : o .fit ≡ true) (u : Uses σ p) {l h : ℕ} (el : l ≡ bit (loOf (o .t) p) j) (eh : h ≡ bit (hiOf (o .t) p) j) where
     -- the hull has one value for the bit
     pub narrow-forced : l ≡ h → Says σ t p j (FORCED l)
     narrow-forced s =
         let x = n .hull e p u in
         let (f, fit) = n .some e in
-        says-forced l fit (λ g git. omega (arith, low-bit, high-bit, x .from g git .bits j, x .to g git .bits j))
+        says-forced l fit (λ g git. omega (arith, x .from g git .bits j, x .to g git .bits j))
 
     -- the hull has both
     pub narrow-free : l ≢ h → Says σ t p j FREE
@@ -59,8 +53,6 @@ module _ {σ : Shape} {t : Span} {o : Narrowed} (n : Narrows σ t o) (p : Place)
         let under = x .from f fit .bits j in
         let above = x .to f fit .bits j in
         let top = bit-lt (hiOf (o .t) p) j in
-        let low = low-bit in
-        let high = high-bit in
         let (g, git, zero) = x .off j (omega arith) in
         let (k, kit, one) = x .on j (omega arith) in
         says-free git kit (omega arith)

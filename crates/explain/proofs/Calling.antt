@@ -77,6 +77,13 @@ question-read ws bs n p j x κ k ex eκ ek =
     let e : κ ≡ at bs (fields * n) = eκ ∙ ap (λ (m : ℕ). at bs m) (add-zero (fields * n)) in
     rw (ex, e, ek)
 
+-- question and bounds are those of rule n of a proper problem
+pub record Read (ws bs l : List ℕ) (n p j : ℕ) (q : Question) (t : Bounds) : Type 0 where
+  pub taken : Taken ws bs l
+  pub there : n < ruleCount bs
+  pub question : q ≡ questionIn ws bs n p j
+  pub bounds : t ≡ boundsIn ws bs n
+
 module _ {ws bs l : List ℕ} (taken : Taken ws bs l) {n : ℕ} (there : n < ruleCount bs) where
   proper : ProperRule (widthsOf ws) (ruleAt bs n)
   proper = rw (rule-at bs n there) at (taken .problem .each n (rw length-series there))
@@ -103,40 +110,43 @@ module _ {ws bs l : List ℕ} (taken : Taken ws bs l) {n : ℕ} (there : n < rul
     sh = sym (hi-at ws (taken .sized .whole-words) (ruleAt bs n .s)) i;
   }
 
-  module _ (p j : ℕ) {q : Question} {t : Bounds} (eq : q ≡ questionIn ws bs n p j) (et : t ≡ boundsIn ws bs n) where
-    shape-same : shapeIn q ≡ shape (widthsOf ws) (rule (rulesOf bs) n)
+module _ {ws bs l : List ℕ} {n p j : ℕ} {q : Question} {t : Bounds} (k : Read ws bs l n p j q t) where
+  shape-same : shapeIn q ≡ shape (widthsOf ws) (rule (rulesOf bs) n)
+  unfolding questionIn
+  shape-same =
+      ap shapeIn (k .question) ∙ ap (shapeOf (ruleAt bs n .kind) (ruleAt bs n .k)) (widths-same (k .taken) (k .there))
+      ∙ shape-at (widthsOf ws) (tableOf ws) (ruleAt bs n) ∙ ap (shape (widthsOf ws)) (sym (rule-at bs n (k .there)))
+
+  span-same : spanOf t ≡ span (tableOf ws) (rule (rulesOf bs) n)
+  span-same =
+      ap spanOf (k .bounds ∙ bounds-same (k .taken) (k .there)) ∙ span-at (widthsOf ws) (tableOf ws) (ruleAt bs n)
+      ∙ ap (span (tableOf ws)) (sym (rule-at bs n (k .there)))
+
+  pub is-kind : KindNumber (q .kind)
+  unfolding questionIn
+  is-kind = rw (k .question) (proper (k .taken) (k .there) .kind)
+
+  pub is-legal : Legal (shapeIn q) (spanOf t)
+  is-legal = rw (shape-same, span-same, rule-at bs n (k .there)) (rule-legal (k .taken .problem .table) (proper (k .taken) (k .there)))
+
+  -- the question names no open bit
+  pub open-refused : ¬ OpenBit (shapeIn q) (spanOf t) (q .place) (q .bit) → Judged ws bs n p j l (explained.Refused 10 0) l
+  unfolding questionIn
+  open-refused d = not-asked (λ a. d (rw (shape-same, span-same, k .question) (a .open-bit)))
+
+  module _ (o : OpenBit (shapeIn q) (spanOf t) (q .place) (q .bit)) where
+    pub open-asks : Asks q t
+    open-asks = record {
+      kind = is-kind;
+      legal = is-legal;
+      used = o .used;
+      small = omega (arith, o .below, is-legal .width (placeIn q) (o .used) .high);
+    }
+
+    pub open-judged : {r : Explained} {m : List ℕ} → Given (shapeIn q) (spanOf t) (placeIn q) (q .bit) l r m → Judged ws bs n p j l r m
     unfolding questionIn
-    shape-same =
-        ap shapeIn eq ∙ ap (shapeOf (ruleAt bs n .kind) (ruleAt bs n .k)) widths-same
-        ∙ shape-at (widthsOf ws) (tableOf ws) (ruleAt bs n) ∙ ap (shape (widthsOf ws)) (sym (rule-at bs n there))
-
-    span-same : spanOf t ≡ span (tableOf ws) (rule (rulesOf bs) n)
-    span-same = ap spanOf (et ∙ bounds-same) ∙ span-at (widthsOf ws) (tableOf ws) (ruleAt bs n) ∙ ap (span (tableOf ws)) (sym (rule-at bs n there))
-
-    pub is-kind : KindNumber (q .kind)
-    unfolding questionIn
-    is-kind = rw eq (proper .kind)
-
-    pub is-legal : Legal (shapeIn q) (spanOf t)
-    is-legal = rw (shape-same, span-same, rule-at bs n there) (rule-legal (taken .problem .table) proper)
-
-    -- the question names no open bit
-    pub open-refused : ¬ OpenBit (shapeIn q) (spanOf t) (q .place) (q .bit) → Judged ws bs n p j l (explained.Refused 10 0) l
-    unfolding questionIn
-    open-refused d = not-asked (λ a. d (rw (shape-same, span-same, eq) (a .open-bit)))
-
-    module _ (o : OpenBit (shapeIn q) (spanOf t) (q .place) (q .bit)) where
-      pub open-asks : Asks q t
-      open-asks = record {
-        kind = is-kind;
-        legal = is-legal;
-        used = o .used;
-        small = omega (arith, o .below, is-legal .width (placeIn q) (o .used) .high);
-      }
-
-      pub open-judged : {r : Explained} {m : List ℕ} → Given (shapeIn q) (spanOf t) (placeIn q) (q .bit) l r m → Judged ws bs n p j l r m
-      unfolding questionIn
-      open-judged g = answered (record { there = there; open-bit = rw (shape-same, span-same, eq) at o }) (rw (shape-same, span-same, eq) at g)
+    open-judged g =
+        answered (record { there = k .there; open-bit = rw (shape-same, span-same, k .question) at o }) (rw (shape-same, span-same, k .question) at g)
 
 -- a rule that is not there
 pub rule-refused : {ws bs l : List ℕ} (n p j : ℕ) → ruleCount bs ≤ n → Judged ws bs n p j l (explained.Refused 10 0) l
@@ -144,26 +154,26 @@ rule-refused n p j h = not-asked (λ a. omega (arith, a .there))
 
 -- ---- the refusals before the question
 
+module _ (ws bs l : List ℕ) (h : entries ≤ length l) where
+  here : refusalHere ws bs l ≡ refusal ws bs
+  unfolding refusalHere
+  here = rw (le-leb entries (length l) h)
+
+  pub problem-taken : refusal ws bs ≡ Ok → Taken ws bs l
+  problem-taken e =
+      let fine = ok-fine 0 ws bs (sym (no-limit ws bs) ∙ e) in
+      record { sized = fine .sized; problem = fine .problem; room = h }
+
 module _ (ws bs l : List ℕ) (n p j : ℕ) where
   pub short-refused : length l < entries → Explaining ws bs n p j l (explained.Refused 1 0) l
   unfolding refusalHere
   short-refused h = refused {number = 1} {place = 0} (rw (lt-leb entries (length l) h))
 
-  module _ (h : entries ≤ length l) where
-    here : refusalHere ws bs l ≡ refusal ws bs
-    unfolding refusalHere
-    here = rw (le-leb entries (length l) h)
+  pub problem-refused : {number place : ℕ} → entries ≤ length l → refusal ws bs ≡ Refused number place → Explaining ws bs n p j l (explained.Refused number place) l
+  problem-refused h e = refused (here ws bs l h ∙ e)
 
-    pub problem-refused : {number place : ℕ} → refusal ws bs ≡ Refused number place → Explaining ws bs n p j l (explained.Refused number place) l
-    problem-refused e = refused (here ∙ e)
-
-    pub problem-taken : refusal ws bs ≡ Ok → Taken ws bs l
-    problem-taken e =
-        let fine = ok-fine 0 ws bs (sym (no-limit ws bs) ∙ e) in
-        record { sized = fine .sized; problem = fine .problem; room = h }
-
-    pub problem-judged : {r : Explained} {m : List ℕ} → refusal ws bs ≡ Ok → Judged ws bs n p j l r m → Explaining ws bs n p j l r m
-    problem-judged e d = judged (here ∙ e) d
+  pub problem-judged : {r : Explained} {m : List ℕ} → entries ≤ length l → refusal ws bs ≡ Ok → Judged ws bs n p j l r m → Explaining ws bs n p j l r m
+  problem-judged h e d = judged (here ws bs l h ∙ e) d
 
 -- a problem that is not refused is proper
 pub here-taken : (ws bs l : List ℕ) → refusalHere ws bs l ≡ Ok → Taken ws bs l
@@ -177,5 +187,5 @@ here-taken ws bs l e = go (decLe entries (length l))
     differs d = let z : _≡_ {A = ℕ} 0 1 = cc in omega arith
 
     go : Dec (entries ≤ length l) → Taken ws bs l
-    go (yes h) = problem-taken ws bs l 0 0 0 h (sym (here ws bs l 0 0 0 h) ∙ e)
+    go (yes h) = problem-taken ws bs l h (sym (here ws bs l h) ∙ e)
     go (no h) = absurd (differs (short (omega arith)))

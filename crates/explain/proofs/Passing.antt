@@ -72,39 +72,37 @@ module _ {q : Question} {x : Said} where
 
 -- ---- one bit
 
--- m and n are the bounds g at place p, lo and hi their bits
-module _ {q : Question} {g : Bounds} {s : Kept} {p b : ℕ} {l : List ℕ} (asked : BitAsked q g s p b l) {m n lo hi : ℕ}
-    (em : m ≡ loOf g (placeOf p)) (el : lo ≡ bit m b) (en : n ≡ hiOf g (placeOf p)) (eh : hi ≡ bit n b) where
-  low-bit : lo ≡ bit (loOf g (placeOf p)) b
-  low-bit = el ∙ ap (λ (k : ℕ). bit k b) em
+-- what is known of bit b of place p once both bounds g were looked at
+pub record Looked (q : Question) (g : Bounds) (s : Kept) (p b : ℕ) (l : List ℕ) (lo hi : ℕ) : Type 0 where
+  pub asked : BitAsked q g s p b l
+  pub low : lo ≡ bit (loOf g (placeOf p)) b
+  pub high : hi ≡ bit (hiOf g (placeOf p)) b
 
-  high-bit : hi ≡ bit (hiOf g (placeOf p)) b
-  high-bit = eh ∙ ap (λ (k : ℕ). bit k b) en
-
+module _ {q : Question} {g : Bounds} {s : Kept} {p b : ℕ} {l : List ℕ} {lo hi : ℕ} (k : Looked q g s p b l lo hi) where
   spot-none : lo ≢ hi → spotAt (spanOf g) (placeOf p) b ≡ []
   unfolding fixedBit
-  spot-none d = rw (ne-eqb (bit (loOf g (placeOf p)) b) (bit (hiOf g (placeOf p)) b) (λ e. d (low-bit ∙ e ∙ sym high-bit)))
+  spot-none d = rw (ne-eqb (bit (loOf g (placeOf p)) b) (bit (hiOf g (placeOf p)) b) (λ e. d (k .low ∙ e ∙ sym (k .high))))
 
   spot-one : lo ≡ hi → spotAt (spanOf g) (placeOf p) b ≡ spot (placeOf p) b ∷ []
   unfolding fixedBit
-  spot-one e = rw (eq-eqb (bit (loOf g (placeOf p)) b) (bit (hiOf g (placeOf p)) b) (sym low-bit ∙ e ∙ high-bit))
+  spot-one e = rw (eq-eqb (bit (loOf g (placeOf p)) b) (bit (hiOf g (placeOf p)) b) (sym (k .low) ∙ e ∙ k .high))
 
   -- an open bit is not gone through
   pub open-passed : {x : Said} → lo ≢ hi → Gone q x (spotAt (spanOf g) (placeOf p) b) s l s l
-  open-passed d = rw (spot-none d) (gone-none l (asked .asks .legal))
+  open-passed d = rw (spot-none d) (gone-none l (k .asked .asks .legal))
 
   pub has-room : lo ≡ hi → s .count < length l
   has-room e =
-      let r : s .count + length (spot (placeOf p) b ∷ []) ≤ length l = rw (spot-one e) at (asked .room) in
+      let r : s .count + length (spot (placeOf p) b ∷ []) ≤ length l = rw (spot-one e) at (k .asked .room) in
       omega arith
 
   module _ (same : lo ≡ hi) (u : Bounds) (eu : spanOf u ≡ opened (spanOf (s .t)) (placeOf p) b) where
     wider : Legal (shapeIn q) (spanOf u)
-    wider = rw eu (opened-legal (placeOf p) b (asked .asks .legal) (asked .below))
+    wider = rw eu (opened-legal (placeOf p) b (k .asked .asks .legal) (k .asked .below))
 
     -- the rule may be asked with the bit open
     pub wider-asks : Asks q u
-    wider-asks = record { kind = asked .asks .kind; legal = wider; used = asked .asks .used; small = asked .asks .small }
+    wider-asks = record { kind = k .asked .asks .kind; legal = wider; used = k .asked .asks .used; small = k .asked .asks .small }
 
     pub bit-dropped : {x : Said} → Says (shapeIn q) (spanOf u) (placeIn q) (q .bit) (answer x)
         → Gone q x (spotAt (spanOf g) (placeOf p) b) s l (record { t = u; count = s .count }) l
@@ -123,7 +121,7 @@ module _ {q : Question} {g : Bounds} {s : Kept} {p b : ℕ} {l : List ℕ} (aske
       out = entry (placeOf p) b ∷ [];
       passed = passed-kept (placeOf p) b eu d;
       count = omega arith;
-      list = rw (place-number p (asked .place));
+      list = rw (place-number p (k .asked .place));
       few = omega arith;
-      legal = asked .asks .legal;
+      legal = k .asked .asks .legal;
     })

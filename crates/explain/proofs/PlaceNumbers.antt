@@ -1,9 +1,10 @@
--- The places of a rule by their numbers: the last one, the fields of a rule, and entries.
+-- The places of a rule by their numbers: the last one, the fields of a rule, and entries; and a bit of what stands at a place.
 -- Assumes nothing.
-use mathlib.Core.Path.{_≡_, refl}
+use mathlib.Core.Path.{_≡_, refl, ap, _∙_}
 use mathlib.Core.Logic.{_≢_}
 use Prim.Native.Nat.{ℕ, zero, suc, _+_, _≤_}
 use native.Mathlib.Omega.{arith}
+use Rattle.words.specs.Bits.{bit}
 use Rattle.rules.specs.Kinds.{S, Kind}
 use Rattle.rules.specs.Rows.{uses}
 use Rattle.checker.specs.Rows.{usesField}
@@ -33,3 +34,7 @@ place-number (suc zero) l = refl
 place-number (suc (suc zero)) l = refl
 place-number (suc (suc (suc zero))) l = refl
 place-number (suc (suc (suc (suc p)))) l = absurd (omega arith)
+
+-- a bit x of the number m that was read, where n stands
+pub bit-at : {m n x : ℕ} (b : ℕ) → m ≡ n → x ≡ bit m b → x ≡ bit n b
+bit-at b e h = h ∙ ap (λ (k : ℕ). bit k b) e

@@ -1,6 +1,6 @@
 -- Whether a question asks for an open bit: what the code finds at the place it names.
 -- Assumes nothing.
-use mathlib.Core.Path.{_≡_, refl, sym, ap, _∙_, subst}
+use mathlib.Core.Path.{_≡_, refl, sym, _∙_, subst}
 use mathlib.Core.Logic.{_≢_}
 use mathlib.Core.Bool.{Bool, true, false}
 use Prim.Native.Nat.{ℕ, _+_, _≤_, _<_}
@@ -33,21 +33,14 @@ module _ (σ : Shape) (t : Span) (p j : ℕ) where
   pub not-used : uses (σ .kind) (placeOf p) ≡ false → Decides (OpenBit σ t p j) false
   not-used e = fails (λ o. subst T e (o .used))
 
-  pub not-open : {a l : ℕ} → a ≡ t .lo (placeOf p) → l ≡ bit a j → l ≡ 1 → Decides (OpenBit σ t p j) false
-  not-open ea el e = fails (λ o. let z : bit (t .lo (placeOf p)) j ≡ 1 = ap (λ (m : ℕ). bit m j) (sym ea) ∙ sym el ∙ e in omega (arith, o .off))
+  pub not-open : {l : ℕ} → l ≡ bit (t .lo (placeOf p)) j → l ≡ 1 → Decides (OpenBit σ t p j) false
+  not-open el e = fails (λ o. omega (arith, o .off))
 
   -- all but the high bound was looked at
-  pub top-decides : p ≤ last → Uses σ (placeOf p) → j < σ .width (placeOf p) → {a b l h : ℕ} → a ≡ t .lo (placeOf p) → l ≡ bit a j
-      → l ≢ 1 → b ≡ t .hi (placeOf p) → h ≡ bit b j → Decides (OpenBit σ t p j) (eqb h 1)
-  top-decides k u w {a} {b} {l} {h} ea el d eb eh = go (eqb h 1) refl
+  pub top-decides : p ≤ last → Uses σ (placeOf p) → j < σ .width (placeOf p) → {l h : ℕ} → l ≡ bit (t .lo (placeOf p)) j → l ≢ 1
+      → h ≡ bit (t .hi (placeOf p)) j → Decides (OpenBit σ t p j) (eqb h 1)
+  top-decides k u w {l} {h} el d eh = go (eqb h 1) refl
     where
-      low : l ≡ bit (t .lo (placeOf p)) j
-      low = el ∙ ap (λ (m : ℕ). bit m j) ea
-
-      high : h ≡ bit (t .hi (placeOf p)) j
-      high = eh ∙ ap (λ (m : ℕ). bit m j) eb
-
       go : (c : Bool) → eqb h 1 ≡ c → Decides (OpenBit σ t p j) c
-      go true e =
-          holds (record { place = k; used = u; below = w; off = omega (arith, low, bit-lt (t .lo (placeOf p)) j); on = sym high ∙ eqb-true h 1 e })
-      go false e = fails (λ o. eqb-false h 1 e (high ∙ o .on))
+      go true e = holds (record { place = k; used = u; below = w; off = omega (arith, bit-lt (t .lo (placeOf p)) j); on = sym eh ∙ eqb-true h 1 e })
+      go false e = fails (λ o. eqb-false h 1 e (eh ∙ o .on))

@@ -32,13 +32,21 @@ same-length : tie.Need-same-length
 same-length c = search needs
 
 returns : tie.Need-returns
-returns c = let r = c .before .before in let e = r .before .before in let s = e .before .before in let a = s .before .before .args in given-conflict (a .q) (a .t) (s .says .ensures) _ (r .reason .ensures) (e .enum-told .given .1)
+returns c =
+    let r = c .before .before in
+    let e = r .before .before in
+    let s = e .before .before in
+    let a = s .before .before .args in
+    given-conflict (a .q) (a .t) (s .says .ensures) _ (r .reason .ensures) (e .enum-told .given .1)
 
 enum-known-x : tie.Need-enum-known-x
 enum-known-x c = search needs
 
 returns-2 : tie.Need-returns-2
-returns-2 c = let s = c .before .before in let a = s .before .before .args in given-free (a .q) (a .t) (s .says .ensures) _ (free-left (s .says .result) (c .before .match .keys2) (c .match2 .keys2))
+returns-2 c =
+    let s = c .before .before in
+    let a = s .before .before .args in
+    given-free (a .q) (a .t) (s .says .ensures) _ (free-left (s .says .result) (c .before .match .keys2) (c .match2 .keys2))
 
 reason-requires-2 : tie.Need-reason-requires-2
 reason-requires-2 c κs = search needs
@@ -47,7 +55,12 @@ same-length-2 : tie.Need-same-length-2
 same-length-2 c = search needs
 
 returns-3 : tie.Need-returns-3
-returns-3 c = let r = c .before .before in let x = r .before .before .before in let s = x .before .before .before in let a = s .before .before .args in given-forced (a .q) (a .t) (rw (x .x .given .1) at (s .says .ensures)) _ (r .reason2 .ensures) _ refl
+returns-3 c =
+    let r = c .before .before in
+    let x = r .before .before .before in
+    let s = x .before .before .before in
+    let a = s .before .before .args in
+    given-forced (a .q) (a .t) (rw (x .x .given .1) at (s .says .ensures)) _ (r .reason2 .ensures) _ refl
 
 pub answered-spec : {M : Type 1} → statement M
 answered-spec =

@@ -15,19 +15,28 @@ enum-known-x : tie.Need-enum-known-x
 enum-known-x c = search needs
 
 returns-2 : tie.Need-returns-2
-returns-2 c = let f = c .before .before .before in problem-refused _ _ _ _ _ _ (f .before .if1 .left) (sym (f .first-refusal .ensures) ∙ c .before .x .given .1)
+returns-2 c =
+    let f = c .before .before .before in
+    problem-refused _ _ _ _ _ _ (f .before .if1 .left) (sym (f .first-refusal .ensures) ∙ c .before .x .given .1)
 
 enum-told : tie.Need-enum-told
 enum-told c = search needs
 
 explain-proper-requires : tie.Need-explain-proper-requires
-explain-proper-requires c κs = let e = c .before in let f = e .before .before in let a = f .before .before .before .before .before .args in problem-taken _ _ _ (a .rule) (a .place) (a .bit) (f .before .if1 .left) (sym (f .first-refusal .ensures) ∙ e .enum-told .given .1)
+explain-proper-requires c κs =
+    let e = c .before in
+    let f = e .before .before in
+    problem-taken _ _ _ (f .before .if1 .left) (sym (f .first-refusal .ensures) ∙ e .enum-told .given .1)
 
 same-length : tie.Need-same-length
 same-length c = search needs
 
 returns-3 : tie.Need-returns-3
-returns-3 c = let r = c .before .before in let e = r .before .before in let f = e .before .before in problem-judged _ _ _ _ _ _ (f .before .if1 .left) (sym (f .first-refusal .ensures) ∙ e .enum-told .given .1) (r .explain-proper .ensures)
+returns-3 c =
+    let r = c .before .before in
+    let e = r .before .before in
+    let f = e .before .before in
+    problem-judged _ _ _ _ _ _ (f .before .if1 .left) (sym (f .first-refusal .ensures) ∙ e .enum-told .given .1) (r .explain-proper .ensures)
 
 pub explain-spec : {M : Type 1} → statement M
 explain-spec =

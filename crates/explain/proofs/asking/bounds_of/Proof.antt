@@ -42,7 +42,31 @@ number-of-requires-8 c κs = search needs
 
 returns : tie.Need-returns
 unfolding boundsIn
-returns c = let n7 = c .before in let n6 = n7 .before in let n5 = n6 .before in let n4 = n5 .before in let n3 = n4 .before in let n2 = n3 .before in let n1 = n2 .before in let f4 = n1 .before in let f3 = f4 .before in let f2 = f3 .before in let f1 = f2 .before in rw (n1 .number-of .ensures, n2 .number-of2 .ensures, n3 .number-of3 .ensures, n4 .number-of4 .ensures, n5 .number-of5 .ensures, n6 .number-of6 .ensures, n7 .number-of7 .ensures, c .number-of8 .ensures, f1 .field .ensures .0, f2 .field2 .ensures .0, f3 .field3 .ensures .0, f4 .field4 .ensures .0)
+returns c =
+    let g = c .before in
+    let f = g .before in
+    let e = f .before in
+    let d = e .before in
+    let j = d .before in
+    let i = j .before in
+    let h = i .before in
+    let s = h .before in
+    let b = s .before in
+    let a = b .before in
+    rw (
+      h .number-of .ensures,
+      i .number-of2 .ensures,
+      j .number-of3 .ensures,
+      d .number-of4 .ensures,
+      e .number-of5 .ensures,
+      f .number-of6 .ensures,
+      g .number-of7 .ensures,
+      c .number-of8 .ensures,
+      a .before .field .ensures .0,
+      a .field2 .ensures .0,
+      b .field3 .ensures .0,
+      s .field4 .ensures .0,
+    )
 
 pub bounds-of-spec : {M : Type 1} → statement M
 bounds-of-spec =

@@ -14,7 +14,10 @@ field-requires-2 : tie.Need-field-requires-2
 field-requires-2 c κs = search needs
 
 returns : tie.Need-returns
-returns c = let f = c .before in let w = f .before in question-read _ _ _ _ _ (w .widths-of .result) (f .field .result) (c .field2 .result) (w .widths-of .ensures) (f .field .ensures .0) (c .field2 .ensures .0)
+returns c =
+    let f = c .before in
+    let w = f .before in
+    question-read _ _ _ _ _ (w .widths-of .result) (f .field .result) (c .field2 .result) (w .widths-of .ensures) (f .field .ensures .0) (c .field2 .ensures .0)
 
 pub question-spec : {M : Type 1} → statement M
 question-spec = tie.close (tie.spec widths-of-requires field-requires field-requires-2 returns)

@@ -15,7 +15,9 @@ fix-one-requires : tie.Need-fix-one-requires
 fix-one-requires c κs = search needs
 
 returns : tie.Need-returns
-returns c = let t = c .before in c .fix-one .ensures ∙ fill-one _ _ (sym (t .before .bit-of .ensures) ∙ t .if1 .taken)
+returns c =
+    let t = c .before in
+    c .fix-one .ensures ∙ fill-one _ _ (sym (t .before .bit-of .ensures) ∙ t .if1 .taken)
 
 returns-2 : tie.Need-returns-2
 returns-2 c = fill-none _ _ (λ e. c .if1 .left (c .before .bit-of .ensures ∙ e))
