@@ -4,6 +4,7 @@ pub mod Answers
 pub mod Questions
 pub mod Passing
 pub mod Walking
+pub mod Reading
 pub mod Calling
 pub mod Once
 pub mod Reasons

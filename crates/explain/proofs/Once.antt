@@ -15,7 +15,8 @@ use Rattle.explain.specs.declared.Explained.{Explained}
 use Rattle.explain.specs.Dropping.{written}
 use Rattle.explain.specs.Promise.{given, Given, Judged, not-asked, answered, Explaining, refused, judged}
 
-given-once : {σ : Shape} {t : Span} {p : Place} {j : ℕ} {l m k : List ℕ} {x y : Explained} → Given σ t p j l x m → Given σ t p j l y k → (x ≡ y) × (m ≡ k)
+given-once : {σ : Shape} {t : Span} {p : Place} {j : ℕ} {l m k : List ℕ} {x y : Explained} → Given σ t p j l x m → Given σ t p j l y k
+    → (x ≡ y) × (m ≡ k)
 given-once {l = l} g h =
     let (e, o) = one-explanation (g .explains) (h .explains) in (
       g .told ∙ ap (λ a. given a (length (g .out))) e ∙ ap (λ (w : List ℕ). given (h .answer) (length w)) o ∙ sym (h .told),

@@ -7,7 +7,6 @@ use native.Mathlib.Omega.{arith}
 use Rattle.words.specs.Bits.{bit}
 use Rattle.words.proofs.Order.{bit-lt}
 use Rattle.rules.specs.Kinds.{Place, R, A, B, S}
-use Rattle.rules.specs.Fits.{Span}
 use Rattle.hull.specs.declared.Bounds.{Bounds}
 use Rattle.hull.specs.Narrowing.{loOf, hiOf, spanOf}
 use Rattle.reasons.specs.Reason.{cleared, filled, placed, opened}

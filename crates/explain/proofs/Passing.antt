@@ -1,10 +1,9 @@
 -- Fixed bits gone through: one bit dropped or kept, and parts one after the other.
 -- Assumes nothing.
-use mathlib.Core.Path.{_≡_, refl, sym, ap, _∙_, subst}
+use mathlib.Core.Path.{_≡_, refl, sym, _∙_}
 use mathlib.Core.Logic.{_≢_}
-use mathlib.Core.Bool.{true, false, cond}
 use mathlib.Core.List.{List, [], _∷_, _++_, append-assoc, append-nil}
-use Prim.Native.Nat.{ℕ, zero, suc, _+_, _*_, _≤_, _<_}
+use Prim.Native.Nat.{ℕ, suc, _+_, _*_, _≤_, _<_}
 use native.Mathlib.Omega.{arith}
 use lib.ListN.{length, length-append, set}
 use lib.Seq.{sets}
@@ -14,14 +13,14 @@ use Rattle.rules.specs.Kinds.{Place}
 use Rattle.rules.specs.Meaning.{Shape}
 use Rattle.rules.specs.Fits.{Span, Legal}
 use Rattle.hull.specs.declared.Bounds.{Bounds}
-use Rattle.hull.specs.Narrowing.{widthOf, loOf, hiOf, spanOf}
+use Rattle.hull.specs.Narrowing.{loOf, hiOf, spanOf}
 use Rattle.reasons.specs.Says.{Answer, Says}
-use Rattle.reasons.specs.Reason.{placeNo, Spot, spot, entry, opened, Reason, all-seen, dropped, kept, fixedBit, fixedFrom}
+use Rattle.reasons.specs.Reason.{Spot, spot, entry, opened, Reason, all-seen, dropped, kept, fixedBit}
 use Rattle.reasons.proofs.Opened.{opened-legal}
 use Rattle.explain.specs.declared.Question.{Question}
 use Rattle.explain.specs.declared.Said.{Said}
 use Rattle.explain.specs.declared.Kept.{Kept}
-use Rattle.explain.specs.Places.{last, placeOf}
+use Rattle.explain.specs.Places.{placeOf}
 use Rattle.explain.specs.Asking.{shapeIn, placeIn, answer, Asks}
 use Rattle.explain.specs.Dropping.{spotAt, Passed, Gone, BitAsked}
 use Rattle.explain.proofs.PlaceNumbers.{place-number}

@@ -1,20 +1,18 @@
--- What the reason in the list is, of every answer that `explain` may give: its bits alone give the answer, and with any one of them treated as open too it does not stay.
+-- What the list holds after `explain`: the bits of the reason alone give the answer, and with any one of them treated as open too it does not stay.
 -- Assumes nothing.
-use mathlib.Core.Path.{_≡_, refl, sym, ap, _∙_, subst}
+use mathlib.Core.Path.{_≡_, refl, ap, _∙_}
 use mathlib.Core.List.{List, []}
-use Prim.Native.Nat.{ℕ, _≤_, _<_}
-use native.Mathlib.Decide.{decLe}
+use Prim.Native.Nat.{ℕ, _<_}
 use native.Mathlib.Omega.{arith}
 use lib.Dec.{T}
 use lib.ListN.{length, take, drop}
 use lib.Seq.{take-at, drop-at}
-use borrow.Author.Tests.{lt-leb}
 use Rattle.rules.specs.Kinds.{Place}
 use Rattle.rules.specs.Meaning.{Shape}
 use Rattle.rules.specs.Fits.{Span, Legal}
 use Rattle.rules.specs.Tight.{rule, shape, span}
 use Rattle.rules.proofs.ProperRules.{rule-legal}
-use Rattle.checker.specs.declared.Checked.the-variants.{Ok, Refused}
+use Rattle.checker.specs.declared.Checked.the-variants.{Refused}
 use Rattle.checker.specs.Lent.{widthsOf, tableOf, rulesOf}
 use Rattle.checker.proofs.Series.{length-series}
 use Rattle.reasons.specs.Says.{Answer, CONFLICT, FORCED, FREE, Says}
@@ -25,7 +23,7 @@ use Rattle.explain.specs.declared.Explained.{Explained}
 use Rattle.explain.specs.declared.Explained.the-variants as explained
 use Rattle.explain.specs.Places.{placeOf}
 use Rattle.explain.specs.Dropping.{written}
-use Rattle.explain.specs.Promise.{entries, refusalHere, given, Given, Taken, Tells, tells-conflict, tells-forced, Judged, not-asked, answered, Explaining, refused, judged}
+use Rattle.explain.specs.Promise.{given, Given, Taken, Tells, tells-conflict, tells-forced, Judged, not-asked, answered, Explaining, refused, judged}
 use Rattle.explain.proofs.Calling.{here-taken}
 
 -- what tells a reason of c entries is given for no other answer, and with no other count
@@ -74,7 +72,8 @@ module _ {ws bs : List ℕ} {n p j : ℕ} {l : List ℕ} where
     listed-enough = reason-enough (listing e h .legal) (listing e h .reason)
 
     -- and with any one of them treated as open too it does not stay
-    pub listed-needs : (q : Place) (b : ℕ) → b < 64 → T (listed (entry q b) (take c m)) → ¬ Says σ (opened (alone t (fixedOf σ t) (take c m)) q b) (placeOf p) j x
+    pub listed-needs : (q : Place) (b : ℕ) → b < 64 → T (listed (entry q b) (take c m))
+        → ¬ Says σ (opened (alone t (fixedOf σ t) (take c m)) q b) (placeOf p) j x
     listed-needs q b i k = reason-needs (listing e h .legal) (listing e h .reason) q b i k
 
 -- ---- FREE

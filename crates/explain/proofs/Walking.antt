@@ -1,17 +1,16 @@
 -- The places of a rule gone through: the fixed bits of one place bit by bit, then the four places, after which the list holds the reason.
 -- Assumes nothing.
-use mathlib.Core.Path.{_≡_, refl, sym, ap, _∙_}
+use mathlib.Core.Path.{_≡_, sym, ap, _∙_}
 use mathlib.Core.Bool.{true, false}
-use mathlib.Core.List.{List, [], _∷_, _++_, append-assoc, append-nil}
+use mathlib.Core.List.{List, _++_, append-assoc, append-nil}
 use Prim.Native.Nat.{ℕ, zero, suc, _+_, _-_, _≤_, _<_}
 use native.Mathlib.Nat.{zero-add}
 use native.Mathlib.Omega.{arith}
-use lib.ListN.{length, length-append, drop}
-use lib.Seq.{sets, length-sets, sets-eq}
+use lib.ListN.{length, length-append}
+use lib.Seq.{length-sets, sets-eq}
 use Rattle.rules.specs.Kinds.{Place}
 use Rattle.rules.specs.Rows.{uses}
-use Rattle.rules.specs.Meaning.{Shape}
-use Rattle.rules.specs.Fits.{Span, Legal}
+use Rattle.rules.specs.Fits.{Span}
 use Rattle.hull.specs.declared.Bounds.{Bounds}
 use Rattle.hull.specs.Narrowing.{widthOf, spanOf}
 use Rattle.reasons.specs.Reason.{Spot, fixedFrom, fixedAt, fixedOf}
@@ -69,7 +68,8 @@ module _ {q : Question} {g : Bounds} {s : Kept} {p : ℕ} {l : List ℕ} (asked 
   place-start = gone-none l (asked .asks .legal)
 
   module _ {x : Said} {r : Kept} {m : List ℕ} (b : ℕ) (h : Gone q x (fixedFrom (spanOf g) (placeOf p) 0 b) s l r m) where
-    pub place-step : {v : Kept} {k : List ℕ} → Gone q x (spotAt (spanOf g) (placeOf p) b) r m v k → Gone q x (fixedFrom (spanOf g) (placeOf p) 0 (b + 1)) s l v k
+    pub place-step : {v : Kept} {k : List ℕ} → Gone q x (spotAt (spanOf g) (placeOf p) b) r m v k
+        → Gone q x (fixedFrom (spanOf g) (placeOf p) 0 (b + 1)) s l v k
     place-step d = rw (from-more (spanOf g) (placeOf p) b) (gone-then h d)
 
     module _ (u : uses (shapeIn q .kind) (placeOf p) ≡ true) (w : ℕ) (ew : w ≡ widthOf (q .w) (placeOf p)) where
@@ -110,15 +110,16 @@ module _ {q : Question} {t : Bounds} (asks : Asks q t) {l : List ℕ} (room : en
   pub first-asked : PlaceAsked q t (begun t) 0 l
   first-asked = record { asks = asks; place = omega arith; room = omega (arith, enough asks) }
 
-  pub next-asked : {x : Said} {ns : List Spot} {r : Kept} {m : List ℕ} (p : ℕ) → p ≤ last → length ns + length (bits q t p) ≤ entries → Gone q x ns (begun t) l r m
-      → PlaceAsked q t r p m
+  pub next-asked : {x : Said} {ns : List Spot} {r : Kept} {m : List ℕ} (p : ℕ) → p ≤ last → length ns + length (bits q t p) ≤ entries
+      → Gone q x ns (begun t) l r m → PlaceAsked q t r p m
   next-asked p k e g = record {
     asks = record { kind = asks .kind; legal = g .legal; used = asks .used; small = asks .small };
     place = k;
     room = omega (arith, g .count, g .few, gone-length g);
   }
 
-  pub all-gone : {x : Said} {r : Kept} {m : List ℕ} → Gone q x (((bits q t 0 ++ bits q t 1) ++ bits q t 2) ++ bits q t 3) (begun t) l r m → Reasoned q x t l (r .count) m
+  pub all-gone : {x : Said} {r : Kept} {m : List ℕ} → Gone q x (((bits q t 0 ++ bits q t 1) ++ bits q t 2) ++ bits q t 3) (begun t) l r m
+      → Reasoned q x t l (r .count) m
   all-gone g =
       let few = g .few in
       let all : length (((bits q t 0 ++ bits q t 1) ++ bits q t 2) ++ bits q t 3) ≤ entries = simp length-append (omega (arith, enough asks)) in

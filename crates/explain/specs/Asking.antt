@@ -3,13 +3,15 @@
 use mathlib.Core.Path.{_≡_}
 use mathlib.Core.Bool.{Bool, true, false}
 use Prim.Native.Nat.{ℕ, _≤_, _<_}
+use lib.Dec.{eqb}
 use Rattle.words.specs.Bits.{bit}
 use Rattle.rules.specs.Kinds.{Place}
 use Rattle.rules.specs.Meaning.{Shape}
 use Rattle.rules.specs.Fits.{Span, Uses, Legal}
 use Rattle.rules.specs.ProperProblem.{KindNumber}
 use Rattle.hull.specs.declared.Bounds.{Bounds}
-use Rattle.hull.specs.Narrowing.{shapeOf, spanOf}
+use Rattle.hull.specs.declared.Narrowed.{Narrowed}
+use Rattle.hull.specs.Narrowing.{loOf, hiOf, shapeOf, spanOf}
 use Rattle.reasons.specs.Says.{Answer, CONFLICT, FORCED, FREE}
 use Rattle.explain.specs.declared.Question.{Question}
 use Rattle.explain.specs.declared.Said.{Said}
@@ -28,6 +30,16 @@ abbrev pub answer : Said → Answer
 answer said.Conflict = CONFLICT
 answer (said.Forced b) = FORCED b
 answer said.Free = FREE
+
+-- what the code reads off a narrowing: whether there is a fit, and the bit in both bounds of the hull
+abbrev pub byHull : Bool → Bool → ℕ → Said
+byHull false same b = said.Conflict
+byHull true true b = said.Forced b
+byHull true false b = said.Free
+
+unfoldable pub saidBy : Question → Narrowed → Said
+saidBy q o =
+    byHull (o .fit) (eqb (bit (loOf (o .t) (placeIn q)) (q .bit)) (bit (hiOf (o .t) (placeIn q)) (q .bit))) (bit (loOf (o .t) (placeIn q)) (q .bit))
 
 -- place number p is one that the rule uses, and bit j there is below the width and open
 pub record OpenBit (σ : Shape) (t : Span) (p j : ℕ) : Type 0 where

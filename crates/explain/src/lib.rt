@@ -52,7 +52,8 @@ fn answered(list: &mut [u16], q: Question, t: hull::Bounds) -> Explained
     requires { ⌜ Asks q t × (entries ≤ length (now list)) ⌝ }
     ensures { λ r. ⌜ Given (shapeIn q) (spanOf t) (placeIn q) (q .bit) (now (list .entry)) r (now (list .exit)) ⌝ }
 {
-    let x = saying::says(q, t);
+    let o = hull::narrow(q.kind as usize, q.k, q.w, t);
+    let x = saying::said_by(q, o);
     if let Said::Conflict = x {
         return Explained::Conflict(dropping::reason(list, q, x, t));
     }
@@ -86,9 +87,9 @@ fn explain_proper(
     answered(list, q, t)
 }
 
-// Explains one open bit at one place (0 r, 1 a, 2 b, 3 s) of a rule, over the table as given. CONFLICT and FORCED: the reason stands in the list, each fixed bit
-// as 64 times place plus bit, and its number of entries comes back; the rest of the list stays. FREE and every refusal leave the list as it was. Room for 193
-// entries is lent; no other memory is needed.
+// Explains one open bit at one place (0 r, 1 a, 2 b, 3 s) of a rule, over the table as given. CONFLICT and FORCED: the reason stands in the list, each
+// fixed bit as 64 times place plus bit, and its number of entries comes back; the rest of the list stays. FREE and every refusal leave the list as it was.
+// Room for 193 entries is lent; no other memory is needed.
 pub fn explain(
     words: &[u64],
     rules: &[u8],

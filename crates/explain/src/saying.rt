@@ -3,16 +3,16 @@ use crate::Question;
 use crate::Said;
 use crate::places;
 ghost use mathlib.Core.Path.{_≡_};
+ghost use Prim.Native.Nat.{_<_};
 ghost use Rattle.hull.specs.Narrowing.{spanOf};
 ghost use Rattle.reasons.specs.Says.{Says};
-ghost use Rattle.explain.specs.Asking.{shapeIn, placeIn, answer, Asks, Decides};
+ghost use Rattle.explain.specs.Asking.{shapeIn, placeIn, answer, saidBy, Asks, Decides};
 
-// CONFLICT where the rule has no fit, FORCED where the hull of the fits has one value for the bit, else FREE.
-pub fn says(q: Question, t: hull::Bounds) -> Said
-    requires { ⌜ Asks q t ⌝ }
-    ensures { λ r. ⌜ Says (shapeIn q) (spanOf t) (placeIn q) (q .bit) (answer r) ⌝ }
+// What a narrowing says of the bit: CONFLICT without a fit, FORCED where the hull of the fits has one value for the bit, else FREE.
+pub fn said_by(q: Question, o: hull::Narrowed) -> Said
+    requires { ⌜ q .bit < 64 ⌝ }
+    ensures { λ r. ⌜ r ≡ saidBy q o ⌝ }
 {
-    let o = hull::narrow(q.kind as usize, q.k, q.w, t);
     if !o.fit {
         return Said::Conflict;
     }
@@ -52,5 +52,5 @@ pub fn stays(q: Question, x: Said, t: hull::Bounds) -> bool
     requires { ⌜ Asks q t ⌝ }
     ensures { λ r. ⌜ Decides (Says (shapeIn q) (spanOf t) (placeIn q) (q .bit) (answer x)) r ⌝ }
 {
-    is_same(x, says(q, t))
+    is_same(x, said_by(q, hull::narrow(q.kind as usize, q.k, q.w, t)))
 }

@@ -6,9 +6,13 @@ use native.Mathlib.Omega.{arith}
 use denote.Enum.Declared.{tagOf}
 use types.Run.{OneOf}
 use borrow.Author.Needs.{needs}
+use Rattle.hull.specs.Narrowing.{spanOf}
+use Rattle.reasons.specs.Says.{Says}
 use Rattle.explain.specs.declared.Said.{Said}
 use Rattle.explain.specs.declared.Said.the-variants as said
+use Rattle.explain.specs.Asking.{shapeIn, placeIn, answer}
 use Rattle.explain.proofs.Said.{the-type}
+use Rattle.explain.proofs.Answers.{narrow-asked, narrow-said}
 use Rattle.explain.proofs.Calling.{given-free, given-conflict, given-forced}
 use Rattle.explain.proofs.answered.Statement.{statement}
 use Rattle.explain.proofs.answered.Tie as tie
@@ -19,8 +23,19 @@ free-left said.Conflict h k = absurd (⊎-elim (λ e. omega arith) (λ e. omega 
 free-left (said.Forced v) h k = absurd (⊎-elim (λ e. omega arith) (λ e. omega arith) k)
 free-left said.Free h k = refl
 
-says-requires : tie.Need-says-requires
-says-requires c κs = search needs
+-- the answer is what the rule says
+says : (c : tie.After-said-by) → (let a = c .before .before .before .args in
+    Says (shapeIn (a .q)) (spanOf (a .t)) (placeIn (a .q)) (a .q .bit) (answer (c .said-by .result)))
+says c =
+    let n = c .before in
+    let s = n .before .before in
+    rw (c .said-by .ensures) (narrow-said (s .args .q) (n .narrow .ensures) (s .pre .0 .used))
+
+narrow-requires : tie.Need-narrow-requires
+narrow-requires c κs = narrow-asked (c .before .pre .0)
+
+said-by-requires : tie.Need-said-by-requires
+said-by-requires c κs = c .before .before .pre .0 .small
 
 enum-told : tie.Need-enum-told
 enum-told c = search needs
@@ -36,8 +51,8 @@ returns c =
     let r = c .before .before in
     let e = r .before .before in
     let s = e .before .before in
-    let a = s .before .before .args in
-    given-conflict (a .q) (a .t) (s .says .ensures) _ (r .reason .ensures) (e .enum-told .given .1)
+    let a = s .before .before .before .args in
+    given-conflict (a .q) (a .t) (says s) _ (r .reason .ensures) (e .enum-told .given .1)
 
 enum-known-x : tie.Need-enum-known-x
 enum-known-x c = search needs
@@ -45,8 +60,8 @@ enum-known-x c = search needs
 returns-2 : tie.Need-returns-2
 returns-2 c =
     let s = c .before .before in
-    let a = s .before .before .args in
-    given-free (a .q) (a .t) (s .says .ensures) _ (free-left (s .says .result) (c .before .match .keys2) (c .match2 .keys2))
+    let a = s .before .before .before .args in
+    given-free (a .q) (a .t) (says s) _ (free-left (s .said-by .result) (c .before .match .keys2) (c .match2 .keys2))
 
 reason-requires-2 : tie.Need-reason-requires-2
 reason-requires-2 c κs = search needs
@@ -59,14 +74,15 @@ returns-3 c =
     let r = c .before .before in
     let x = r .before .before .before in
     let s = x .before .before .before in
-    let a = s .before .before .args in
-    given-forced (a .q) (a .t) (rw (x .x .given .1) at (s .says .ensures)) _ (r .reason2 .ensures) _ refl
+    let a = s .before .before .before .args in
+    given-forced (a .q) (a .t) (rw (x .x .given .1) at (says s)) _ (r .reason2 .ensures) _ refl
 
 pub answered-spec : {M : Type 1} → statement M
 answered-spec =
     tie.close
     (tie.spec
-    says-requires
+    narrow-requires
+    said-by-requires
     enum-told
     reason-requires
     same-length

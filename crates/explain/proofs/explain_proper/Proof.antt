@@ -2,7 +2,8 @@
 use borrow.Author.Tests.{not-true, not-false}
 use borrow.Author.Needs.{needs}
 use Rattle.explain.proofs.Answers.{decided, refuted}
-use Rattle.explain.proofs.Calling.{Read, is-kind, is-legal, open-refused, open-asks, open-judged, rule-refused}
+use Rattle.explain.proofs.Reading.{Read, is-kind, is-legal, open-refused, open-asks, open-judged}
+use Rattle.explain.proofs.Calling.{rule-refused}
 use Rattle.explain.proofs.explain_proper.Statement.{statement}
 use Rattle.explain.proofs.explain_proper.Tie as tie
 

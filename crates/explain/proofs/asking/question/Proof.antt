@@ -1,6 +1,6 @@
 -- `explain::asking::question` meets its contract. Assumes nothing.
 use borrow.Author.Needs.{needs}
-use Rattle.explain.proofs.Calling.{question-read}
+use Rattle.explain.proofs.Reading.{question-read}
 use Rattle.explain.proofs.asking.question.Statement.{statement}
 use Rattle.explain.proofs.asking.question.Tie as tie
 

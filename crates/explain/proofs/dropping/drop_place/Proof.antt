@@ -1,13 +1,9 @@
 -- `explain::dropping::drop_place` meets its contract. Assumes nothing.
-use mathlib.Core.Path.{_≡_}
-use mathlib.Core.Bool.{true}
 use Prim.Native.Nat.{_-_, _≤_}
 use native.Mathlib.Omega.{arith}
-use lib.Dec.{T}
 use borrow.Author.Needs.{needs}
 use borrow.Author.Tests.{not-true, not-false}
 use Rattle.rules.specs.Kinds.{kindOf}
-use Rattle.rules.specs.Rows.{uses}
 use Rattle.hull.specs.Narrowing.{spanOf}
 use Rattle.reasons.specs.Reason.{fixedFrom}
 use Rattle.explain.specs.Places.{placeOf}

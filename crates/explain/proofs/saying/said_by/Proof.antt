@@ -1,18 +1,13 @@
--- `explain::saying::says` meets its contract. Assumes nothing.
-use borrow.Author.Tests.{not-true, not-false}
+-- `explain::saying::said_by` meets its contract. Assumes nothing.
 use borrow.Author.Needs.{needs}
+use borrow.Author.Tests.{not-true, not-false}
 use Rattle.explain.proofs.PlaceNumbers.{bit-at}
-use Rattle.explain.proofs.Answers.{narrow-conflict, narrow-forced, narrow-free}
-use Rattle.explain.proofs.saying.says.Statement.{statement}
-use Rattle.explain.proofs.saying.says.Tie as tie
-
-narrow-requires : tie.Need-narrow-requires
-narrow-requires c κs = search needs
+use Rattle.explain.proofs.Answers.{read-conflict, read-forced, read-free}
+use Rattle.explain.proofs.saying.said_by.Statement.{statement}
+use Rattle.explain.proofs.saying.said_by.Tie as tie
 
 returns : tie.Need-returns
-returns c =
-    let n = c .before .before in
-    narrow-conflict (n .narrow .ensures) _ _ (not-true _ (c .if1 .taken))
+returns c = read-conflict _ _ (not-true _ (c .if1 .taken))
 
 low-requires : tie.Need-low-requires
 low-requires c κs = search needs
@@ -31,8 +26,8 @@ returns-2 c =
     let h = c .before in
     let l = h .before .before in
     let e = l .before .before in
-    let n = e .before .before in
-    narrow-forced (n .narrow .ensures) _ _ (not-false _ (e .if1 .left)) (n .before .pre .used) (bit-at _ (l .before .low .ensures) (l .bit-of .ensures))
+    let a = e .before .before .args in
+    read-forced (a .q) (a .o) (not-false _ (e .if1 .left)) (bit-at _ (l .before .low .ensures) (l .bit-of .ensures))
     (bit-at _ (h .before .high .ensures) (h .bit-of2 .ensures)) (c .if2 .taken)
 
 returns-3 : tie.Need-returns-3
@@ -40,15 +35,14 @@ returns-3 c =
     let h = c .before in
     let l = h .before .before in
     let e = l .before .before in
-    let n = e .before .before in
-    narrow-free (n .narrow .ensures) _ _ (not-false _ (e .if1 .left)) (n .before .pre .used) (bit-at _ (l .before .low .ensures) (l .bit-of .ensures))
+    let a = e .before .before .args in
+    read-free (a .q) (a .o) (not-false _ (e .if1 .left)) (bit-at _ (l .before .low .ensures) (l .bit-of .ensures))
     (bit-at _ (h .before .high .ensures) (h .bit-of2 .ensures)) (c .if2 .left)
 
-pub says-spec : {M : Type 1} → statement M
-says-spec =
+pub said-by-spec : {M : Type 1} → statement M
+said-by-spec =
     tie.close
     (tie.spec
-    narrow-requires
     returns
     low-requires
     bit-of-requires
