@@ -39,7 +39,9 @@ module _ {σ : Shape} {p : Place} {j : ℕ} {x : Answer} where
 
   pub passed-then : {t u v : Span} {ns ms : List Spot} {out more : List ℕ} → Passed σ p j x t ns u out → Passed σ p j x u ms v more
       → Passed σ p j x t (ns ++ ms) v (out ++ more)
-  passed-then h k = record { onward = λ rs rest r. rw (append-assoc, append-assoc) (h .onward _ _ (k .onward rs rest r)) }
+  passed-then {ns = ns} {ms} {out} {more} h k = record {
+    onward = λ rs rest r. rw (append-assoc ns ms rs, append-assoc out more rest) (h .onward _ _ (k .onward rs rest r));
+  }
 
   -- all gone through: what is kept is the reason
   pub passed-reason : {t u : Span} {ns : List Spot} {out : List ℕ} → Passed σ p j x t ns u out → Reason σ p j x t ns out
