@@ -12,25 +12,25 @@ ghost use Rattle.explain.specs.Asking.{shapeIn, placeIn, Asks};
 ghost use Rattle.explain.specs.Promise.{entries, Given, Taken, Judged, Explaining};
 
 // A question: the kind and number of a rule, the widths of its places, and the place and the bit that are asked for.
-pub struct Question {
-    pub kind: u64,
-    pub k: u64,
-    pub w: hull::Widths,
-    pub place: u64,
-    pub bit: u64,
+struct Question {
+    kind: u64,
+    k: u64,
+    w: hull::Widths,
+    place: u64,
+    bit: u64,
 }
 
 // What a rule says of a bit: it has no fit, all fits have this value, or neither.
-pub enum Said {
+enum Said {
     Conflict,
     Forced(u64),
     Free,
 }
 
 // How far the dropping has come: the bounds with the dropped bits open, and how many entries are kept.
-pub struct Kept {
-    pub t: hull::Bounds,
-    pub count: usize,
+struct Kept {
+    t: hull::Bounds,
+    count: usize,
 }
 
 // The answer: CONFLICT with the number of entries of its reason, FORCED with the value and that number, FREE, or a refusal by its number and place.
