@@ -2,7 +2,7 @@
 -- Assumes nothing.
 use mathlib.Core.Path.{_≡_, refl, ap, _∙_}
 use mathlib.Core.List.{List, []}
-use Prim.Native.Nat.{ℕ, _<_}
+use Prim.Native.Nat.{ℕ, _≤_, _<_}
 use native.Mathlib.Omega.{arith}
 use lib.Dec.{T}
 use lib.ListN.{length, take, drop}
@@ -19,11 +19,12 @@ use Rattle.reasons.specs.Says.{Answer, CONFLICT, FORCED, FREE, Says}
 use Rattle.reasons.specs.Reason.{entry, opened, fixedOf, Explains, no-reason, with-reason}
 use Rattle.reasons.specs.Alone.{listed, alone}
 use Rattle.reasons.proofs.Kept.{reason-enough, reason-needs}
+use Rattle.reasons.proofs.Listed.{reason-length}
 use Rattle.explain.specs.declared.Explained.{Explained}
 use Rattle.explain.specs.declared.Explained.the-variants as explained
 use Rattle.explain.specs.Places.{placeOf}
 use Rattle.explain.specs.Dropping.{written}
-use Rattle.explain.specs.Promise.{given, Given, Taken, Tells, tells-conflict, tells-forced, Judged, not-asked, answered, Explaining, refused, judged}
+use Rattle.explain.specs.Promise.{entries, given, Given, Taken, Tells, tells-conflict, tells-forced, Judged, not-asked, answered, Explaining, refused, judged}
 use Rattle.explain.proofs.Calling.{here-taken}
 
 -- what tells a reason of c entries is given for no other answer, and with no other count
@@ -43,6 +44,7 @@ refused-tells h = elim h [ ]
 pub record Listing (σ : Shape) (t : Span) (p : Place) (j : ℕ) (x : Answer) (c : ℕ) (l m : List ℕ) : Type 0 where
   pub legal : Legal σ t
   pub reason : Explains σ t p j x (take c m)
+  pub count : length (take c m) ≡ c
   pub rest : drop c m ≡ drop c l
 
 module _ {ws bs : List ℕ} {n p j : ℕ} {l : List ℕ} where
@@ -57,6 +59,7 @@ module _ {ws bs : List ℕ} {n p j : ℕ} {l : List ℕ} where
       record {
         legal = rule-legal (taken .problem .table) (taken .problem .each n (rw length-series (a .there)));
         reason = rw (first, ← ex) (g .explains);
+        count = ap length first ∙ ec;
         rest = rw (g .list, ec) (drop-at (g .out) (drop c l) c ec);
       }
 
@@ -75,6 +78,10 @@ module _ {ws bs : List ℕ} {n p j : ℕ} {l : List ℕ} where
     pub listed-needs : (q : Place) (b : ℕ) → b < 64 → T (listed (entry q b) (take c m))
         → ¬ Says σ (opened (alone t (fixedOf σ t) (take c m)) q b) (placeOf p) j x
     listed-needs q b i k = reason-needs (listing e h .legal) (listing e h .reason) q b i k
+
+    -- there are at most 193 of them
+    pub listed-most : c ≤ entries
+    listed-most = omega (arith, listing e h .count, reason-length (listing e h .legal) (listing e h .reason))
 
 -- ---- FREE
 
