@@ -14,7 +14,7 @@ def declared(path):
     names = set()
     for line in open(path, encoding="utf-8"):
         if path.endswith(".rt"):
-            match = re.match(r"\s*pub fn (\w+)", line)
+            match = re.match(r'\s*pub (?:extern "C" )?fn (\w+)', line)
             names.update(match.groups() if match else ())
             continue
         match = re.match(r"\s*(?:(?:unfoldable|abbrev|pub)\s+)*(?:(?:data|record)\s+)?([^\s:({]+)[^:]*:", line)

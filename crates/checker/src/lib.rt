@@ -3,8 +3,8 @@ ghost use mathlib.Core.Path.{_≡_};
 ghost use Rattle.checker.specs.Tests.{sized, oneTo};
 ghost use Rattle.checker.specs.Refusal.{refusal, refusalWith};
 
-mod rows;
-mod rule;
+pub mod rows;
+pub mod rule;
 mod word;
 
 // The stride, numbers a word: width, lo, hi.
@@ -42,11 +42,11 @@ pub enum Checked {
 }
 
 // The widths of a rule's places.
-struct Widths {
-    r: u64,
-    a: u64,
-    b: u64,
-    s: u64,
+pub struct Widths {
+    pub r: u64,
+    pub a: u64,
+    pub b: u64,
+    pub s: u64,
 }
 
 // Whether x is 1 to m.

@@ -24,7 +24,7 @@ fn wide(x: u8) -> u64
 }
 
 // A field of rule n.
-fn field(rules: &[u8], n: usize, column: usize) -> u64
+pub fn field(rules: &[u8], n: usize, column: usize) -> u64
     requires { ⌜ fields * n + column < length (now rules) ⌝ }
     ensures { λ r. ⌜ (r ≡ getD (now (rules .entry)) (fields * n + column) 0) × (r < 256) ⌝ }
 {
@@ -67,7 +67,7 @@ fn width_of(words: &[u64], i: u64) -> u64
 }
 
 // The widths of the words that stand at the places of rule n.
-fn widths_of(words: &[u64], rules: &[u8], n: usize) -> Widths
+pub fn widths_of(words: &[u64], rules: &[u8], n: usize) -> Widths
     requires { ⌜ fields * n + 5 < length (now rules) ⌝ }
     ensures { λ x. ⌜ x ≡ record {
       r = widthAt (now (words .entry)) (ruleAt (now (rules .entry)) n .r);

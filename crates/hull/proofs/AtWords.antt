@@ -31,10 +31,10 @@ module _ (w : List ℕ) (t : Table) (ρ : Rule) where
   high-at B = refl
   high-at S = refl
 
-  shape-at : shapeOf (ρ .kind) (ρ .k) (widthsAt w ρ) ≡ shape w ρ
+  pub shape-at : shapeOf (ρ .kind) (ρ .k) (widthsAt w ρ) ≡ shape w ρ
   shape-at = λ i. record { kind = kindOf (ρ .kind); k = ρ .k; width = fun-ext width-at i }
 
-  span-at : spanOf (boundsAt t ρ) ≡ span t ρ
+  pub span-at : spanOf (boundsAt t ρ) ≡ span t ρ
   span-at = λ i. record { lo = fun-ext low-at i; hi = fun-ext high-at i }
 
   pub legal-at : Legal (shape w ρ) (span t ρ) → Legal (shapeOf (ρ .kind) (ρ .k) (widthsAt w ρ)) (spanOf (boundsAt t ρ))

@@ -1,0 +1,10 @@
+pub mod PlaceNumbers
+pub mod Opening
+pub mod Answers
+pub mod Questions
+pub mod Passing
+pub mod Walking
+pub mod Reading
+pub mod Calling
+pub mod Once
+pub mod Reasons

@@ -1,0 +1,41 @@
+-- Two results that the promise of `explain` allows are equal: the answer with its value, place and count, and every number of the list.
+-- Assumes nothing.
+use mathlib.Core.Path.{_≡_, refl, sym, ap, _∙_}
+use mathlib.Core.List.{List}
+use Prim.Native.Nat.{ℕ}
+use native.Mathlib.Omega.{arith}
+use lib.ListN.{length}
+use Rattle.rules.specs.Kinds.{Place}
+use Rattle.rules.specs.Meaning.{Shape}
+use Rattle.rules.specs.Fits.{Span}
+use Rattle.checker.specs.declared.Checked.{Checked}
+use Rattle.checker.specs.declared.Checked.the-variants.{Ok, Refused}
+use Rattle.reasons.proofs.One.{one-explanation}
+use Rattle.explain.specs.declared.Explained.{Explained}
+use Rattle.explain.specs.Dropping.{written}
+use Rattle.explain.specs.Promise.{given, Given, Judged, not-asked, answered, Explaining, refused, judged}
+
+given-once : {σ : Shape} {t : Span} {p : Place} {j : ℕ} {l m k : List ℕ} {x y : Explained} → Given σ t p j l x m → Given σ t p j l y k
+    → (x ≡ y) × (m ≡ k)
+given-once {l = l} g h =
+    let (e, o) = one-explanation (g .explains) (h .explains) in (
+      g .told ∙ ap (λ a. given a (length (g .out))) e ∙ ap (λ (w : List ℕ). given (h .answer) (length w)) o ∙ sym (h .told),
+      g .list ∙ ap (λ (w : List ℕ). written w l) o ∙ sym (h .list),
+    )
+
+module _ {ws bs : List ℕ} {n p j : ℕ} {l : List ℕ} where
+  judged-once : {x y : Explained} {m k : List ℕ} → Judged ws bs n p j l x m → Judged ws bs n p j l y k → (x ≡ y) × (m ≡ k)
+  judged-once (not-asked a) (not-asked b) = (refl, refl)
+  judged-once (not-asked a) (answered b h) = absurd (a b)
+  judged-once (answered a g) (not-asked b) = absurd (b a)
+  judged-once (answered a g) (answered b h) = given-once g h
+
+other : {n p : ℕ} {x : Checked} → x ≡ Refused n p → x ≡ Ok → ⊥
+other a b = let z : _≡_ {A = ℕ} 0 1 = cc in omega arith
+
+module _ {ws bs : List ℕ} {n p j : ℕ} {l : List ℕ} where
+  pub explain-once : {x y : Explained} {m k : List ℕ} → Explaining ws bs n p j l x m → Explaining ws bs n p j l y k → (x ≡ y) × (m ≡ k)
+  explain-once (refused a) (refused b) = (cc, refl)
+  explain-once (refused a) (judged b d) = absurd (other a b)
+  explain-once (judged a d) (refused b) = absurd (other b a)
+  explain-once (judged a d) (judged b e) = judged-once d e

@@ -1,0 +1,107 @@
+-- What the list holds after `explain`: the bits of the reason alone give the answer, and with any one of them treated as open too it does not stay.
+-- Assumes nothing.
+use mathlib.Core.Path.{_≡_, refl, ap, _∙_}
+use mathlib.Core.List.{List, []}
+use Prim.Native.Nat.{ℕ, _≤_, _<_}
+use native.Mathlib.Omega.{arith}
+use lib.Dec.{T}
+use lib.ListN.{length, take, drop}
+use lib.Seq.{take-at, drop-at}
+use Rattle.rules.specs.Kinds.{Place}
+use Rattle.rules.specs.Meaning.{Shape}
+use Rattle.rules.specs.Fits.{Span, Legal}
+use Rattle.rules.specs.Tight.{rule, shape, span}
+use Rattle.rules.proofs.ProperRules.{rule-legal}
+use Rattle.checker.specs.declared.Checked.the-variants.{Refused}
+use Rattle.checker.specs.Lent.{widthsOf, tableOf, rulesOf}
+use Rattle.checker.proofs.Series.{length-series}
+use Rattle.reasons.specs.Says.{Answer, CONFLICT, FORCED, FREE, Says}
+use Rattle.reasons.specs.Reason.{entry, opened, fixedOf, Explains, no-reason, with-reason}
+use Rattle.reasons.specs.Alone.{listed, alone}
+use Rattle.reasons.proofs.Kept.{reason-enough, reason-needs}
+use Rattle.reasons.proofs.Listed.{reason-length}
+use Rattle.explain.specs.declared.Explained.{Explained}
+use Rattle.explain.specs.declared.Explained.the-variants as explained
+use Rattle.explain.specs.Places.{placeOf}
+use Rattle.explain.specs.Dropping.{written}
+use Rattle.explain.specs.Promise.{entries, given, Given, Taken, Tells, tells-conflict, tells-forced, Judged, not-asked, answered, Explaining, refused, judged}
+use Rattle.explain.proofs.Calling.{here-taken}
+
+-- what tells a reason of c entries is given for no other answer, and with no other count
+told-given : {r : Explained} {x : Answer} {c : ℕ} (a : Answer) (k : ℕ) → Tells r x c → r ≡ given a k → (a ≡ x) × (k ≡ c)
+told-given CONFLICT k tells-conflict e = (refl, cc)
+told-given (FORCED b) k tells-conflict e = let z : _≡_ {A = ℕ} 0 1 = cc in absurd (omega arith)
+told-given FREE k tells-conflict e = let z : _≡_ {A = ℕ} 0 1 = cc in absurd (omega arith)
+told-given CONFLICT k tells-forced e = let z : _≡_ {A = ℕ} 0 1 = cc in absurd (omega arith)
+told-given (FORCED b) k tells-forced e = (cc, cc)
+told-given FREE k tells-forced e = let z : _≡_ {A = ℕ} 0 1 = cc in absurd (omega arith)
+
+-- a refusal tells none
+refused-tells : {number place : ℕ} {x : Answer} {c : ℕ} → Tells (explained.Refused number place) x c → ⊥
+refused-tells h = elim h [ ]
+
+-- the first c numbers of the list are the reason, and the others are as they were
+pub record Listing (σ : Shape) (t : Span) (p : Place) (j : ℕ) (x : Answer) (c : ℕ) (l m : List ℕ) : Type 0 where
+  pub legal : Legal σ t
+  pub reason : Explains σ t p j x (take c m)
+  pub count : length (take c m) ≡ c
+  pub rest : drop c m ≡ drop c l
+
+module _ {ws bs : List ℕ} {n p j : ℕ} {l : List ℕ} where
+  pub listing : {m : List ℕ} {r : Explained} {x : Answer} {c : ℕ} → Explaining ws bs n p j l r m → Tells r x c
+      → Listing (shape (widthsOf ws) (rule (rulesOf bs) n)) (span (tableOf ws) (rule (rulesOf bs) n)) (placeOf p) j x c l m
+  listing (refused e) h = absurd (refused-tells h)
+  listing (judged e (not-asked a)) h = absurd (refused-tells h)
+  listing {m} {c = c} (judged e (answered a g)) h =
+      let (ex, ec) = told-given (g .answer) (length (g .out)) h (g .told) in
+      let taken : Taken ws bs l = here-taken ws bs l e in
+      let first : take c m ≡ g .out = rw (g .list) (take-at (g .out) _ c ec) in
+      record {
+        legal = rule-legal (taken .problem .table) (taken .problem .each n (rw length-series (a .there)));
+        reason = rw (first, ← ex) (g .explains);
+        count = ap length first ∙ ec;
+        rest = rw (g .list, ec) (drop-at (g .out) (drop c l) c ec);
+      }
+
+  module _ {m : List ℕ} {r : Explained} {x : Answer} {c : ℕ} (e : Explaining ws bs n p j l r m) (h : Tells r x c) where
+    abbrev σ : Shape
+    σ = shape (widthsOf ws) (rule (rulesOf bs) n)
+
+    abbrev t : Span
+    t = span (tableOf ws) (rule (rulesOf bs) n)
+
+    -- the bits in the list, alone, give the same answer
+    pub listed-enough : Says σ (alone t (fixedOf σ t) (take c m)) (placeOf p) j x
+    listed-enough = reason-enough (listing e h .legal) (listing e h .reason)
+
+    -- and with any one of them treated as open too it does not stay
+    pub listed-needs : (q : Place) (b : ℕ) → b < 64 → T (listed (entry q b) (take c m))
+        → ¬ Says σ (opened (alone t (fixedOf σ t) (take c m)) q b) (placeOf p) j x
+    listed-needs q b i k = reason-needs (listing e h .legal) (listing e h .reason) q b i k
+
+    -- there are at most 193 of them
+    pub listed-most : c ≤ entries
+    listed-most = omega (arith, listing e h .count, reason-length (listing e h .legal) (listing e h .reason))
+
+-- ---- FREE
+
+free-reason : {σ : Shape} {t : Span} {p : Place} {j : ℕ} {out : List ℕ} → Explains σ t p j FREE out → out ≡ []
+free-reason (no-reason s) = refl
+free-reason (with-reason n s r) = absurd (n refl)
+
+told-free : (a : Answer) (k : ℕ) → explained.Free ≡ given a k → a ≡ FREE
+told-free CONFLICT k e = let z : _≡_ {A = ℕ} 0 1 = cc in absurd (omega arith)
+told-free (FORCED b) k e = let z : _≡_ {A = ℕ} 0 1 = cc in absurd (omega arith)
+told-free FREE k e = refl
+
+given-free : {σ : Shape} {t : Span} {p : Place} {j : ℕ} {l m : List ℕ} → Given σ t p j l explained.Free m → m ≡ l
+given-free {l = l} g =
+    let none : g .out ≡ [] = free-reason (rw (told-free (g .answer) (length (g .out)) (g .told)) at (g .explains)) in
+    g .list ∙ ap (λ (w : List ℕ). written w l) none
+
+judged-free : {ws bs : List ℕ} {n p j : ℕ} {l m : List ℕ} → Judged ws bs n p j l explained.Free m → m ≡ l
+judged-free (answered a g) = given-free g
+
+-- the list stays as it was
+pub free-unchanged : {ws bs : List ℕ} {n p j : ℕ} {l m : List ℕ} → Explaining ws bs n p j l explained.Free m → m ≡ l
+free-unchanged (judged e d) = judged-free d

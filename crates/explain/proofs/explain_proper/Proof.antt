@@ -1,0 +1,62 @@
+-- `explain::explain_proper` meets its contract. Assumes nothing.
+use borrow.Author.Tests.{not-true, not-false}
+use borrow.Author.Needs.{needs}
+use Rattle.explain.proofs.Answers.{decided, refuted}
+use Rattle.explain.proofs.Reading.{Read, is-kind, is-legal, open-refused, open-asks, open-judged}
+use Rattle.explain.proofs.Calling.{rule-refused}
+use Rattle.explain.proofs.explain_proper.Statement.{statement}
+use Rattle.explain.proofs.explain_proper.Tie as tie
+
+-- question and bounds were read
+read : (c : tie.After-bounds-of) → (let s = c .before .before .before .before .before .before in
+    Read (s .args .words .now) (s .args .rules .now) (s .args .list .now) (s .args .rule) (s .args .place) (s .args .bit)
+    (c .before .question .result) (c .bounds-of .result))
+read c =
+    let e = c .before .before in
+    record { taken = e .before .before .before .before .pre; there = e .if1 .left; question = c .before .question .ensures; bounds = c .bounds-of .ensures }
+
+returns : tie.Need-returns
+returns c = rule-refused _ _ _ (c .if1 .taken)
+
+question-requires : tie.Need-question-requires
+question-requires c κs = search needs
+
+bounds-of-requires : tie.Need-bounds-of-requires
+bounds-of-requires c κs = search needs
+
+is-open-requires : tie.Need-is-open-requires
+is-open-requires c κs = (is-kind (read c), is-legal (read c))
+
+returns-2 : tie.Need-returns-2
+returns-2 c =
+    let o = c .before in
+    open-refused (read (o .before)) (refuted (o .is-open .ensures) (not-true _ (c .if2 .taken)))
+
+answered-requires : tie.Need-answered-requires
+answered-requires c κs =
+    let o = c .before .before in
+    let k = read (o .before) in
+    (open-asks k (decided (o .is-open .ensures) (not-false _ (c .before .if2 .left))), k .taken .room)
+
+same-length : tie.Need-same-length
+same-length c = search needs
+
+returns-3 : tie.Need-returns-3
+returns-3 c =
+    let r = c .before .before in
+    let i = r .before .before in
+    let o = i .before in
+    open-judged (read (o .before)) (decided (o .is-open .ensures) (not-false _ (i .if2 .left))) (r .answered .ensures)
+
+pub explain-proper-spec : {M : Type 1} → statement M
+explain-proper-spec =
+    tie.close
+    (tie.spec
+    returns
+    question-requires
+    bounds-of-requires
+    is-open-requires
+    returns-2
+    answered-requires
+    same-length
+    returns-3)

@@ -1,0 +1,5 @@
+pub mod Places
+pub mod Asking
+pub mod Reading
+pub mod Dropping
+pub mod Promise

@@ -1,0 +1,74 @@
+-- What the call `explain` promises: its answer, its place, its count, and every number of the list afterwards.
+-- Assumes nothing: these are definitions.
+use mathlib.Core.Path.{_≡_}
+use mathlib.Core.List.{List}
+use Prim.Native.Nat.{ℕ, _≤_, _<_}
+use lib.Dec.{leb}
+use lib.ListN.{length}
+use Rattle.rules.specs.Kinds.{Place}
+use Rattle.rules.specs.Meaning.{Shape}
+use Rattle.rules.specs.Fits.{Span}
+use Rattle.rules.specs.Tight.{rule, shape, span}
+use Rattle.rules.specs.ProperProblem.{ProperProblem}
+use Rattle.checker.specs.declared.Checked.{Checked}
+use Rattle.checker.specs.declared.Checked.the-variants.{Ok, Refused}
+use Rattle.checker.specs.Lent.{widthsOf, tableOf, ruleCount, rulesOf}
+use Rattle.checker.specs.Demands.{SIZE, Sized}
+use Rattle.checker.specs.Refusal.{asks, _then_, refusal}
+use Rattle.reasons.specs.Says.{Answer, CONFLICT, FORCED, FREE}
+use Rattle.reasons.specs.Reason.{Explains}
+use Rattle.explain.specs.declared.Explained.{Explained}
+use Rattle.explain.specs.declared.Explained.the-variants as explained
+use Rattle.explain.specs.Places.{placeOf}
+use Rattle.explain.specs.Asking.{OpenBit}
+use Rattle.explain.specs.Dropping.{written}
+
+-- the entries for which room is asked
+abbrev pub entries : ℕ
+entries = 193
+
+-- refusal 1 for a list that is too short, then the refusals of the problem
+unfoldable pub refusalHere : List ℕ → List ℕ → List ℕ → Checked
+refusalHere ws bs l = asks SIZE (leb entries (length l)) then refusal ws bs
+
+-- what comes back for an answer whose reason has c entries
+abbrev pub given : Answer → ℕ → Explained
+given CONFLICT c = explained.Conflict c
+given (FORCED b) c = explained.Forced b c
+given FREE c = explained.Free
+
+-- an answer that has a reason, and the number of its entries
+pub data Tells : Explained → Answer → ℕ → Type 0 where
+  tells-conflict : {c : ℕ} → Tells (explained.Conflict c) CONFLICT c
+  tells-forced : {b c : ℕ} → Tells (explained.Forced b c) (FORCED b) c
+
+-- the rule of shape σ over the bounds t is explained at bit j of place p: r comes back, and m stands in the list l afterwards
+pub record Given (σ : Shape) (t : Span) (p : Place) (j : ℕ) (l : List ℕ) (r : Explained) (m : List ℕ) : Type 0 where
+  pub answer : Answer
+  pub out : List ℕ
+  pub explains : Explains σ t p j answer out
+  pub told : r ≡ given answer (length out)
+  pub list : m ≡ written out l
+
+-- what the call has found proper before it looks at the question
+pub record Taken (ws bs l : List ℕ) : Type 0 where
+  pub sized : Sized ws bs
+  pub problem : ProperProblem (widthsOf ws) (tableOf ws) (rulesOf bs)
+  pub room : entries ≤ length l
+
+module _ (ws bs : List ℕ) (n p j : ℕ) where
+  -- there is a rule n, and bit j of its place p is open in the table as given
+  pub record Asked : Type 0 where
+    pub there : n < ruleCount bs
+    pub open-bit : OpenBit (shape (widthsOf ws) (rule (rulesOf bs) n)) (span (tableOf ws) (rule (rulesOf bs) n)) p j
+
+  -- over a proper problem: refusal 10 where the question names no open bit, else what the rule says of the bit, over the table as given
+  pub data Judged (l : List ℕ) : Explained → List ℕ → Type 0 where
+    not-asked : ¬ Asked → Judged l (explained.Refused 10 0) l
+    answered : {r : Explained} {m : List ℕ} → Asked
+        → Given (shape (widthsOf ws) (rule (rulesOf bs) n)) (span (tableOf ws) (rule (rulesOf bs) n)) (placeOf p) j l r m → Judged l r m
+
+  -- words ws, rules bs and the list l were lent; r comes back, and m stands in the list afterwards
+  pub data Explaining (l : List ℕ) : Explained → List ℕ → Type 0 where
+    refused : {number place : ℕ} → refusalHere ws bs l ≡ Refused number place → Explaining l (explained.Refused number place) l
+    judged : {r : Explained} {m : List ℕ} → refusalHere ws bs l ≡ Ok → Judged l r m → Explaining l r m
