@@ -1,16 +1,23 @@
 -- The refusal of a word, of a rule and of a problem, by what their tests gave.
 -- Assumes nothing.
-use mathlib.Core.Path.{_≡_}
-use mathlib.Core.Bool.{true, false}
+use mathlib.Core.Path.{_≡_, refl}
+use mathlib.Core.Bool.{Bool, true, false}
 use mathlib.Core.List.{List}
 use Prim.Native.Nat.{ℕ, _≤_, _<_}
+use native.Mathlib.Omega.{arith}
 use borrow.Author.Tests.{le-leb, lt-leb}
 use Rattle.words.specs.Word.{bounded}
+use Rattle.checker.specs.declared.Checked.{Checked}
 use Rattle.checker.specs.declared.Checked.the-variants.{Ok, Refused}
 use Rattle.checker.specs.Lent.{wordCount, widthAt, loAt, hiAt, ruleCount, ruleAt}
-use Rattle.checker.specs.Demands.{most-guesses}
+use Rattle.checker.specs.Demands.{Demand, most-guesses}
 use Rattle.checker.specs.Tests.{sized, isWidth, isKind, areFields, isFitting}
-use Rattle.checker.specs.Refusal.{firstOf, wordRefusal, ruleRefusal, refusal, refusalWith}
+use Rattle.checker.specs.Refusal.{asks, _then_, firstOf, wordRefusal, ruleRefusal, refusal, refusalWith}
+
+-- what passes two tests one after the other passes both
+pub passes : (d : Demand) (b : Bool) (y : Checked) → (asks d b then y) ≡ Ok → (b ≡ true) × (y ≡ Ok)
+passes d true y e = (refl, e)
+passes d false y e = absurd (let z : _≡_ {A = ℕ} 0 1 = cc in omega arith)
 
 module _ (ws : List ℕ) (i : ℕ) where
   pub refused-width : isWidth (widthAt ws i) ≡ false → Refused 4 i ≡ wordRefusal ws i

@@ -24,7 +24,8 @@ use Rattle.explain.specs.declared.Explained.{Explained}
 use Rattle.explain.specs.declared.Explained.the-variants as explained
 use Rattle.explain.specs.Places.{placeOf}
 use Rattle.explain.specs.Dropping.{written}
-use Rattle.explain.specs.Promise.{entries, given, Given, Taken, Tells, tells-conflict, tells-forced, Judged, not-asked, answered, Explaining, refused, judged}
+use Rattle.explain.specs.Promise.{entries, given, Given, Taken, Tells, tells-conflict}
+use Rattle.explain.specs.Promise.{tells-forced, Judged, not-asked, answered, Explaining, refused, judged}
 use Rattle.explain.proofs.Calling.{here-taken}
 
 -- what tells a reason of c entries is given for no other answer, and with no other count

@@ -13,9 +13,10 @@ use Rattle.rules.specs.Tight.{Tight}
 use Rattle.checker.specs.declared.Checked.{Checked}
 use Rattle.checker.specs.declared.Checked.the-variants.{Ok, Refused}
 use Rattle.checker.specs.Lent.{wordCount, widthsOf, tableOf, ruleCount, rulesOf}
-use Rattle.checker.specs.Demands.{Demand, SIZE}
+use Rattle.checker.specs.Demands.{SIZE}
 use Rattle.checker.specs.Refusal.{asks, _then_, refusalWith}
 use Rattle.checker.specs.Promise.{Fine}
+use Rattle.checker.proofs.Answers.{passes}
 use Rattle.checker.proofs.Right.{ok-fine}
 use Rattle.tighten.specs.Memory.{tableIn, Numbered, Cleared}
 use Rattle.tighten.proofs.Calling.{all-chosen, all-listed}
@@ -27,11 +28,6 @@ use Rattle.searcher.specs.Searching.{outcomeOf}
 use Rattle.searcher.specs.Starting.{Asked, Sought}
 use Rattle.solve.specs.declared.Solved.the-variants as answer
 use Rattle.solve.specs.Promise.{workLength, refusalHere, Given, Stored, Comes, Solving, refused, found-first, found-none, gave-up-at}
-
--- what passes two tests one after the other passes both
-passes : (d : Demand) (b : Bool) (y : Checked) → (asks d b then y) ≡ Ok → (b ≡ true) × (y ≡ Ok)
-passes d true y e = (refl, e)
-passes d false y e = absurd (let z : _≡_ {A = ℕ} 0 1 = cc in omega arith)
 
 -- ---- what is refused
 

@@ -1,0 +1,205 @@
+-- The call's own steps: what is not refused is a proper problem with room, and what the trials come to is the answer.
+-- Assumes nothing.
+use mathlib.Core.Path.{_≡_, refl, sym, ap, subst, _∙_}
+use mathlib.Core.Bool.{Bool, true, false}
+use mathlib.Core.List.{List, []}
+use Prim.Native.Nat.{ℕ, _+_, _≤_, _<_}
+use native.Mathlib.Omega.{arith}
+use lib.Dec.{leb}
+use lib.ListN.{length}
+use borrow.Author.Tests.{le-leb, lt-leb, leb-true}
+use Rattle.words.specs.Table.{at}
+use Rattle.rules.proofs.Propers.{proper-inside}
+use Rattle.checker.specs.declared.Checked.{Checked}
+use Rattle.checker.specs.declared.Checked.the-variants.{Ok, Refused}
+use Rattle.checker.specs.Lent.{series, widthsOf, tableOf, ruleCount, ruleAt, rulesOf, wordCount}
+use Rattle.checker.specs.Demands.{SIZE}
+use Rattle.checker.specs.Refusal.{asks, _then_, refusalWith}
+use Rattle.checker.specs.Promise.{Fine}
+use Rattle.checker.proofs.Answers.{passes}
+use Rattle.checker.proofs.Right.{ok-fine}
+use Rattle.checker.proofs.Series.{length-series, series-at}
+use Rattle.tighten.specs.Memory.{tableIn, Numbered, Cleared}
+use Rattle.tighten.proofs.Calling.{all-chosen, all-listed}
+use Rattle.search.specs.Search.{none, found, gave-up}
+use Rattle.search.proofs.Limit.{answer-none, count-limit}
+use Rattle.searcher.specs.declared.Answer.{Answer}
+use Rattle.searcher.specs.declared.Answer.the-variants.{Found, Nothing, GaveUp}
+use Rattle.searcher.specs.Searching.{outcomeOf}
+use Rattle.searcher.specs.Starting.{Asked, Sought}
+use Rattle.causes.specs.Cause.{Cause, EXISTS, CAUSE, GAVE-UP, Tried, Trims, Causes, exists, gives-up, trimmed}
+use Rattle.causes.proofs.Without.{cause-some}
+use Rattle.cause.specs.declared.Caused.{Caused}
+use Rattle.cause.specs.declared.Caused.the-variants as answer
+use Rattle.cause.specs.declared.Trimmed.{Trimmed}
+use Rattle.cause.specs.Listing.{keptIn, Standing, Short, Held}
+use Rattle.cause.specs.Trials.{TrimsTo, Trimming, Decides, all-decided, one-gave-up}
+use Rattle.cause.specs.Promise.{workLength, refusalHere, Given, Named, Entered, Causing, refused, exists-at, gave-up-at, caused-by, NoneFirst}
+
+-- ---- what is refused
+
+module _ (limit : ℕ) (ws bs s l : List ℕ) where
+  pub short-work : length l < workLength → Causing limit ws bs s l (answer.Refused 1 0) s l
+  unfolding refusalHere
+  short-work h = refused {n = 1} {p = 0} (rw (lt-leb workLength (length l) h))
+
+  pub short-list : workLength ≤ length l → length s < ruleCount bs → Causing limit ws bs s l (answer.Refused 1 0) s l
+  unfolding refusalHere
+  short-list g h = refused {n = 1} {p = 0} (rw (le-leb workLength (length l) g, lt-leb (ruleCount bs) (length s) h))
+
+  enough : workLength ≤ length l → ruleCount bs ≤ length s → refusalHere limit ws bs s l ≡ refusalWith limit ws bs
+  unfolding refusalHere
+  enough g h = rw (le-leb workLength (length l) g, le-leb (ruleCount bs) (length s) h)
+
+  pub problem-refused : {n p : ℕ} → workLength ≤ length l → ruleCount bs ≤ length s → refusalWith limit ws bs ≡ Refused n p
+      → Causing limit ws bs s l (answer.Refused n p) s l
+  problem-refused g h e = refused (enough g h ∙ e)
+
+  pub nothing-refused : workLength ≤ length l → ruleCount bs ≤ length s → refusalWith limit ws bs ≡ Ok → Given limit ws bs s l
+  nothing-refused g h e = record { passed = enough g h ∙ e }
+
+-- ---- what is not
+
+pub not-both : {n p : ℕ} {x : Checked} → x ≡ Refused n p → x ≡ Ok → ⊥
+not-both a b = let z : _≡_ {A = ℕ} 0 1 = cc in omega arith
+
+module _ {limit : ℕ} {ws bs s l : List ℕ} (given : Given limit ws bs s l) where
+  both : (leb workLength (length l) ≡ true) × ((asks SIZE (leb (ruleCount bs) (length s)) then refusalWith limit ws bs) ≡ Ok)
+  unfolding refusalHere
+  both = passes SIZE (leb workLength (length l)) (asks SIZE (leb (ruleCount bs) (length s)) then refusalWith limit ws bs) (given .passed)
+
+  rest : (leb (ruleCount bs) (length s) ≡ true) × (refusalWith limit ws bs ≡ Ok)
+  rest = passes SIZE (leb (ruleCount bs) (length s)) (refusalWith limit ws bs) (both .1)
+
+  pub work-room : workLength ≤ length l
+  work-room = leb-true workLength (length l) (both .0)
+
+  pub list-room : ruleCount bs ≤ length s
+  list-room = leb-true (ruleCount bs) (length s) (rest .0)
+
+  pub fine : Fine limit ws bs
+  fine = ok-fine limit ws bs (rest .1)
+
+  -- the same call over a memory of the same length
+  pub given-again : {z : List ℕ} → length z ≡ length l → Given limit ws bs s z
+  given-again {z} e = nothing-refused limit ws bs s z (omega (arith, e, work-room)) list-room (rest .1)
+
+  -- ---- the first search
+
+  module _ {k : List ℕ} (y : Numbered (ruleCount bs) l k) where
+    pub asked : Asked ws bs k (ruleCount bs)
+    asked = record {
+      sized = fine .sized;
+      problem = fine .problem;
+      listed = all-listed bs y (omega (arith, fine .sized .rules, work-room, y .size));
+      few = fine .sized .rules;
+      room = omega (arith, work-room, y .size);
+    }
+
+    module _ {r : Answer} {z : List ℕ} (t : Sought ws bs (ruleCount bs) limit k r z) where
+      tried : Tried (widthsOf ws) limit (tableOf ws) (rulesOf bs) (outcomeOf r (tableIn (wordCount ws) z .lo))
+      tried = rw (all-chosen bs y) at (t .search)
+
+      same-size : length z ≡ length l
+      same-size = t .size ∙ y .size
+
+      cleared : {l′ : List ℕ} → Cleared z l′ → Cleared l l′
+      cleared x = record { size = x .size ∙ same-size; zeros = x .zeros }
+
+      pub end-exists : {g : ℕ} {l′ : List ℕ} → r ≡ Found g → Cleared z l′ → Causing limit ws bs s l (answer.Exists g) s l′
+      end-exists e c = exists-at given (exists (rw e at tried)) (cleared c)
+
+      pub end-gave-up : {l′ : List ℕ} → r ≡ GaveUp → Cleared z l′ → Causing limit ws bs s l (answer.GaveUp limit) s l′
+      end-gave-up e c = gave-up-at given (gives-up (rw e at tried)) (cleared c)
+
+      pub end-none : {g : ℕ} → r ≡ Nothing g → NoneFirst limit ws bs s z g
+      end-none e = record { given = given-again same-size; nothing = rw e at tried }
+
+      pub end-trials : {x : Caused} {s′ l′ : List ℕ} → Causing limit ws bs s z x s′ l′ → Causing limit ws bs s l x s′ l′
+      end-trials (refused e) = absurd (not-both e (given-again {z = z} same-size .passed))
+      end-trials (exists-at g c x) = exists-at given c (cleared x)
+      end-trials (gave-up-at g c x) = gave-up-at given c (cleared x)
+      end-trials (caused-by g c q h x) = caused-by given c q h (cleared x)
+
+-- ---- the trials
+
+module _ {limit : ℕ} {ws bs s l : List ℕ} {first : ℕ} (n : NoneFirst limit ws bs s l first) {k : List ℕ} (y : Numbered (ruleCount bs) l k) where
+  f : Fine limit ws bs
+  f = fine (n .given)
+
+  pub trimming : Trimming ws bs k limit first
+  trimming = record {
+    lent = record { sized = f .sized; problem = f .problem; room = omega (arith, work-room (n .given), y .size) };
+    standing = record { numbers = λ j h. y .each j h; kept = λ j h. absurd (omega arith); most = omega arith };
+    low = f .guesses;
+    few = omega (arith, count-limit (n .nothing) answer-none (omega arith), f .guesses);
+  }
+
+  named : {x : Cause} → TrimsTo ws bs limit (ruleCount bs) [] first x → Named limit ws bs x
+  named {x} t =
+      trimmed (n .nothing)
+      (subst (λ m. Trims (widthsOf ws) (rulesOf bs) limit (tableOf ws) m [] first x) (sym (length-series (ruleCount bs) (ruleAt bs))) t)
+
+  module _ {r : Trimmed} {z : List ℕ} (d : Decides ws bs limit first k r z) where
+    cleared-end : length z ≡ length k → {l′ : List ℕ} → Cleared z l′ → Cleared l l′
+    cleared-end e x = record { size = x .size ∙ e ∙ y .size; zeros = x .zeros }
+
+    -- a trial gave up
+    pub gave-up-end : r .decided ≡ false → {l′ : List ℕ} → Cleared z l′ → Causing limit ws bs s l (answer.GaveUp (r .sum)) s l′
+    gave-up-end e = go d
+      where
+        go : Decides ws bs limit first k r z → {l′ : List ℕ} → Cleared z l′ → Causing limit ws bs s l (answer.GaveUp (r .sum)) s l′
+        go (all-decided a b c t) x = absurd (let q : _≡_ {A = ℕ} 0 1 = cc (a, e) in omega arith)
+        go (one-gave-up a b t) x = gave-up-at (n .given) (named t) (cleared-end b x)
+
+    module _ (e : r .decided ≡ true) where
+      -- all trials were decided
+      decided-as : (length z ≡ length k) × Standing bs z 0 (r .kept) × Named limit ws bs (CAUSE (keptIn z 0 (r .kept)) (r .sum))
+      decided-as = go d
+        where
+          go : Decides ws bs limit first k r z
+              → (length z ≡ length k) × Standing bs z 0 (r .kept) × Named limit ws bs (CAUSE (keptIn z 0 (r .kept)) (r .sum))
+          go (all-decided a b c t) = (b, c, named t)
+          go (one-gave-up a b t) = absurd (let q : _≡_ {A = ℕ} 0 1 = cc (a, e) in omega arith)
+
+      -- a cause names at least one rule
+      pub not-empty : r .kept ≡ 0 → ⊥
+      unfolding keptIn series
+      not-empty q = cause-some (proper-inside (f .problem .table)) (rw q at (decided-as .2))
+
+      pub give-room : (r .kept ≤ length s) × Short (r .kept) z
+      give-room =
+          let c = decided-as .1 in
+          let m = c .most in (
+            omega (arith, list-room (n .given)),
+            record {
+              most = omega (arith, f .sized .rules);
+              room = omega (arith, f .sized .rules, work-room (n .given), y .size, decided-as .0);
+              each = λ j h. omega (arith, low j h, f .sized .rules);
+            },
+          )
+        where
+          low : (j : ℕ) → j < r .kept → at z (64 + j) < ruleCount bs
+          low j h =
+              let q : 64 + 0 + j ≡ 64 + j = omega arith in
+              rw q at (decided-as .1 .kept j h)
+
+      pub cause-end : {s′ l′ : List ℕ} → Held (r .kept) z s s′ → Cleared z l′ → Causing limit ws bs s l (answer.Cause (r .sum) (r .kept)) s′ l′
+      unfolding keptIn
+      cause-end {s′} h x = caused-by (n .given) (decided-as .2) size entered (cleared-end (decided-as .0) x)
+        where
+          size : length (keptIn z 0 (r .kept)) ≡ r .kept
+          size = length-series (r .kept) (λ j. at z (64 + 0 + j))
+
+          same : (j : ℕ) → j < r .kept → at (keptIn z 0 (r .kept)) j ≡ at z (64 + j)
+          same j l =
+              let q : 64 + 0 + j ≡ 64 + j = omega arith in
+              series-at 0 (r .kept) j (λ i. at z (64 + 0 + i)) l ∙ ap (at z) q
+
+          entered : Entered (keptIn z 0 (r .kept)) s s′
+          entered = record {
+            room = omega (arith, size, give-room .0);
+            size = h .size;
+            each = λ i l. let m : i < r .kept = rw size at l in h .each i m ∙ sym (same i m);
+            rest = λ i l. h .rest i (rw size at l);
+          }
