@@ -18,5 +18,5 @@ pub record Printed (x : Report) (l m : List ℕ) (e : ℕ) : Type 0 where
 -- the lent words have widths of at most 64, are at most 32, and each has a value
 pub record Valued (ws values : List ℕ) : Type 0 where
   pub few : wordCount ws ≤ 32
-  pub narrow : (i : ℕ) → widthAt ws i ≤ 64
+  pub narrow : (i : ℕ) → i < wordCount ws → widthAt ws i ≤ 64
   pub there : wordCount ws ≤ length values

@@ -5,11 +5,12 @@ use mathlib.Core.List.{List}
 use Prim.Native.Nat.{ℕ, _≤_}
 use lib.ListN.{length}
 use Rattle.checker.specs.declared.Checked.{Checked}
-use Rattle.checker.specs.Lent.{widthsOf, tableOf, rulesOf}
+use Rattle.checker.specs.Lent.{widthsOf}
 use Rattle.tighten.specs.Memory.{Cleared}
 use Rattle.search.specs.Search.{found, none, gave-up}
-use Rattle.causes.specs.Cause.{CAUSE, GAVE-UP, Causes}
+use Rattle.causes.specs.Cause.{CAUSE, GAVE-UP}
 use Rattle.solve.specs.Promise.{Comes}
+use Rattle.cause.specs.Promise.{workLength, Named}
 use Rattle.blocks.specs.declared.Reading.{Reading}
 use Rattle.blocks.specs.Bytes.{zeros}
 use Rattle.blocks.specs.Edition.{edition1}
@@ -20,11 +21,7 @@ use Rattle.report.specs.declared.Advised.the-variants as answer
 use Rattle.report.specs.Text.{Report, sat, unsat, named, unnamed, unknown, refused}
 use Rattle.report.specs.Printed.{most, Printed}
 
--- the numbers of work memory that the call asks for
-abbrev pub workLength : ℕ
-workLength = 5120
-
--- enough bytes and enough work memory were lent
+-- enough bytes and, as for a cause, enough work memory were lent
 pub record Lent (l k : List ℕ) : Type 0 where
   pub bytes : most ≤ length l
   pub work : workLength ≤ length k
@@ -32,11 +29,20 @@ pub record Lent (l k : List ℕ) : Type 0 where
 -- what a problem's own search and, after NONE, the procedure for its cause come to
 pub data Answers (limit : ℕ) (ws bs : List ℕ) : Report → Type 0 where
   found-first : {v : List ℕ} {g : ℕ} → Comes limit ws bs (found v g) → Answers limit ws bs (sat g (widthsOf ws) v)
-  none-named : {rules : List ℕ} {g sum : ℕ} → Comes limit ws bs (none g) → Causes (widthsOf ws) (rulesOf bs) limit (tableOf ws) (CAUSE rules sum)
+  none-named : {rules : List ℕ} {g sum : ℕ} → Comes limit ws bs (none g) → Named limit ws bs (CAUSE rules sum)
       → Answers limit ws bs (unsat g (named sum rules))
-  none-unnamed : {g sum : ℕ} → Comes limit ws bs (none g) → Causes (widthsOf ws) (rulesOf bs) limit (tableOf ws) (GAVE-UP sum)
+  none-unnamed : {g sum : ℕ} → Comes limit ws bs (none g) → Named limit ws bs (GAVE-UP sum)
       → Answers limit ws bs (unsat g (unnamed sum))
   gave-up-at : Comes limit ws bs gave-up → Answers limit ws bs (unknown limit)
+
+-- a problem without refusals, with enough lent
+pub record Asked (limit : ℕ) (ws bs l k : List ℕ) : Type 0 where
+  pub lent : Lent l k
+  pub fine : edition1 .judge limit ws bs ≡ Checked.Ok
+
+-- a problem's report stands in bytes m, which were l, and has e of them; work memory, which was k, is n, all 0
+pub data Told (limit : ℕ) (ws bs l k : List ℕ) (e : ℕ) (m n : List ℕ) : Type 0 where
+  told : {x : Report} → Answers limit ws bs x → Printed x l m e → Cleared k n → Told limit ws bs l k e m n
 
 -- memory for 32 words and for 252 rules
 abbrev pub noWords : List ℕ

@@ -1,17 +1,18 @@
-// The report of the adviser program, put into lent bytes as lines. 2,304 bytes always do: 32 lines of at most 71 bytes and the first of at most 25,
-// or two lines with at most 252 rule numbers of at most 6 bytes each.
+// The call `advise`: a block file read, its problem solved, the cause looked for where there are no settings, and the report put into lent bytes as lines.
 mod line;
+mod printing;
 
-use line::put_entries;
-use line::put_line;
-use line::put_word;
-ghost use mathlib.Core.List.{[], _∷_};
-ghost use Prim.Native.Nat.{_+_, _*_, _≤_};
-ghost use lib.ListN.{length, take};
-ghost use Rattle.checker.specs.Lent.{wordCount, widthsOf};
-ghost use Rattle.lines.specs.Putting.{Appended};
-ghost use Rattle.report.specs.Text.{wordLines, causeLine, named, unnamed, sat, unsat, unknown, refused};
-ghost use Rattle.report.specs.Printed.{most, Printed, Valued};
+use blocks::Reading;
+use cause::Caused;
+use printing::put_refused;
+use printing::put_sat;
+use printing::put_unknown;
+use printing::put_unnamed;
+use printing::put_unsat;
+use solve::Solved;
+ghost use Rattle.search.specs.Search.{none};
+ghost use Rattle.solve.specs.Promise.{Comes};
+ghost use Rattle.report.specs.Promise.{Asked, Told, Advises};
 
 // The answer: the lines stand in front of the lent bytes, so many; or the number of a refusal of what was lent, and its place.
 pub enum Advised {
@@ -22,71 +23,70 @@ pub enum Advised {
 // Numbers a word: width, lo, hi.
 const STRIDE: usize = 3;
 
-// A line per word, from `at` on: where they end.
-fn put_words(out: &mut [u8], at: usize, words: &[u64], model: &[u64]) -> usize
-    requires { ⌜ Valued (now words) (now model) × (at + 71 * wordCount (now words) ≤ length (now out)) ⌝ }
-    ensures { λ r. ⌜ Appended (now (out .entry)) at (wordLines (widthsOf (now (words .entry))) (now (model .entry))) (now (out .exit)) r ⌝ }
+// Bytes a rule: kind, r, a, b, s, k.
+const FIELDS: usize = 6;
+
+// Bytes that always do for a report.
+pub const MOST: usize = 2304;
+
+// The report on a problem whose search found no settings, with its count: the cause, or that a search for it gave up. No other answer comes back here.
+fn tell_none(
+    words: &[u64],
+    rules: &[u8],
+    limit: u64,
+    count: u64,
+    out: &mut [u8],
+    work: &mut [u64],
+) -> usize
+    requires { ⌜ Asked limit (now words) (now rules) (now out) (now work) × Comes limit (now words) (now rules) (none count) ⌝ }
+    ensures { λ r. ⌜ Told limit (now (words .entry)) (now (rules .entry)) (now (out .entry)) (now (work .entry)) r (now (out .exit)) (now (work .exit)) ⌝ }
 {
-    let n = words.len() / STRIDE;
-    let mut i = 0;
-    let mut e = at;
-    while i < n {
-        e = put_word(out, e, i as u64, words[STRIDE * i], model[i]);
-        i += 1;
+    let mut list = [0; 252];
+    match cause::trials(words, rules, limit, count, &mut list, work) {
+        Caused::Cause(sum, n) => put_unsat(out, count, sum, &list, n as usize),
+        Caused::GaveUp(sum) => put_unnamed(out, count, sum),
+        Caused::Exists(_) => 0,
+        Caused::Refused(_, _) => 0,
     }
-    e
 }
 
-// The line of a cause, the first n entries of a list: where it ends.
-fn put_cause(out: &mut [u8], at: usize, sum: u64, list: &[u16], n: usize) -> usize
-    requires { ⌜ (n ≤ length (now list)) × (at + 6 * n + 27 ≤ length (now out)) ⌝ }
-    ensures { λ r. ⌜ Appended (now (out .entry)) at (causeLine (named sum (take n (now (list .entry))))) (now (out .exit)) r ⌝ }
+// The report on a problem: solved, and the cause looked for where there are no settings. A problem without refusals is not refused here.
+fn tell(words: &[u64], rules: &[u8], limit: u32, out: &mut [u8], work: &mut [u64]) -> usize
+    requires { ⌜ Asked limit (now words) (now rules) (now out) (now work) ⌝ }
+    ensures { λ r. ⌜ Told limit (now (words .entry)) (now (rules .entry)) (now (out .entry)) (now (work .entry)) r (now (out .exit)) (now (work .exit)) ⌝ }
 {
-    let a = lines::put(out, at, b"cause");
-    let b = lines::number::put_all(out, a, &[sum]);
-    let e = put_entries(out, b, list, n);
-    lines::put(out, e, b"\n")
+    let mut model = [0; 32];
+    match solve::solve(words, rules, limit, &mut model, work) {
+        Solved::Found(count) => put_sat(out, count, words, &model),
+        Solved::Nothing(count) => tell_none(words, rules, limit as u64, count, out, work),
+        Solved::GaveUp(count) => put_unknown(out, count),
+        Solved::Refused(_, _) => 0,
+    }
 }
 
-// FOUND: the count, and a line per word with its value of the model. How many bytes the report has.
-fn put_sat(out: &mut [u8], count: u64, words: &[u64], model: &[u64]) -> usize
-    requires { ⌜ Valued (now words) (now model) × (most ≤ length (now out)) ⌝ }
-    ensures { λ r. ⌜ Printed (sat count (widthsOf (now (words .entry))) (now (model .entry))) (now (out .entry)) (now (out .exit)) r ⌝ }
+// Advises on a block file: the lines of its report stand in front of the lent bytes, the rest of them stays, and their number comes back. Bytes of fewer than
+// 2,304 or work memory of fewer than 5,120 numbers is refusal 1, and nothing is altered; else work memory is all 0 afterwards, also where the lines say
+// `refused`.
+pub fn advise(file: &[u8], out: &mut [u8], work: &mut [u64]) -> Advised
+    ensures { λ r. ⌜ Advises (now (file .entry)) (now (out .entry)) (now (work .entry)) r (now (out .exit)) (now (work .exit)) ⌝ }
 {
-    let e = put_line(out, 0, b"sat", &[count]);
-    put_words(out, e, words, model)
-}
-
-// NONE with its cause, the first n entries of a list.
-fn put_unsat(out: &mut [u8], count: u64, sum: u64, list: &[u16], n: usize) -> usize
-    requires { ⌜ (n ≤ 252) × (n ≤ length (now list)) × (most ≤ length (now out)) ⌝ }
-    ensures { λ r. ⌜ Printed (unsat count (named sum (take n (now (list .entry))))) (now (out .entry)) (now (out .exit)) r ⌝ }
-{
-    let e = put_line(out, 0, b"unsat", &[count]);
-    put_cause(out, e, sum, list, n)
-}
-
-// NONE where a search for the cause gave up.
-fn put_unnamed(out: &mut [u8], count: u64, sum: u64) -> usize
-    requires { ⌜ most ≤ length (now out) ⌝ }
-    ensures { λ r. ⌜ Printed (unsat count (unnamed sum)) (now (out .entry)) (now (out .exit)) r ⌝ }
-{
-    let e = put_line(out, 0, b"unsat", &[count]);
-    put_line(out, e, b"cause unknown", &[sum])
-}
-
-// GAVE UP.
-fn put_unknown(out: &mut [u8], count: u64) -> usize
-    requires { ⌜ most ≤ length (now out) ⌝ }
-    ensures { λ r. ⌜ Printed (unknown count) (now (out .entry)) (now (out .exit)) r ⌝ }
-{
-    put_line(out, 0, b"unknown", &[count])
-}
-
-// A refusal.
-fn put_refused(out: &mut [u8], number: u64, place: u64) -> usize
-    requires { ⌜ most ≤ length (now out) ⌝ }
-    ensures { λ r. ⌜ Printed (refused number place) (now (out .entry)) (now (out .exit)) r ⌝ }
-{
-    put_line(out, 0, b"refused", &[number, place])
+    if out.len() < MOST {
+        return Advised::Refused(1, 0);
+    }
+    if work.len() < cause::WORK {
+        return Advised::Refused(1, 0);
+    }
+    let mut words = [0; 96];
+    let mut rules = [0; 1512];
+    match reader::read(file, &mut words, &mut rules) {
+        Reading::Refused(number, place) => {
+            tighten::buffer::clear(work);
+            Advised::Lines(put_refused(out, number, place))
+        }
+        Reading::Ok(x) => {
+            let w = STRIDE * x.words;
+            let r = FIELDS * x.rules;
+            Advised::Lines(tell(&words[..w], &rules[..r], x.limit, out, work))
+        }
+    }
 }

@@ -1,8 +1,8 @@
--- `report::put_cause` meets its contract. Assumes nothing.
+-- `report::printing::put_cause` meets its contract. Assumes nothing.
 use borrow.Author.Needs.{needs}
 use Rattle.report.proofs.Reports.{cause-put}
-use Rattle.report.proofs.put_cause.Statement.{statement}
-use Rattle.report.proofs.put_cause.Tie as tie
+use Rattle.report.proofs.printing.put_cause.Statement.{statement}
+use Rattle.report.proofs.printing.put_cause.Tie as tie
 
 slice-aggregate-put : tie.Need-slice-aggregate-put
 slice-aggregate-put c = search needs

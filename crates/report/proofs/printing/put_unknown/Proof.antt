@@ -1,8 +1,8 @@
--- `report::put_unknown` meets its contract. Assumes nothing.
+-- `report::printing::put_unknown` meets its contract. Assumes nothing.
 use borrow.Author.Needs.{needs}
 use Rattle.report.proofs.Reports.{unknown-put}
-use Rattle.report.proofs.put_unknown.Statement.{statement}
-use Rattle.report.proofs.put_unknown.Tie as tie
+use Rattle.report.proofs.printing.put_unknown.Statement.{statement}
+use Rattle.report.proofs.printing.put_unknown.Tie as tie
 
 slice-aggregate-put-line : tie.Need-slice-aggregate-put-line
 slice-aggregate-put-line c = search needs

@@ -1,4 +1,4 @@
--- `report::put_words` meets its contract: the lines passed are put, of at most 71 bytes each. Assumes nothing.
+-- `report::printing::put_words` meets its contract: the lines passed are put, of at most 71 bytes each. Assumes nothing.
 use mathlib.Core.Path.{_≡_, refl, _∙_}
 use Prim.Native.Nat.{_+_, _-_, _*_, _≤_}
 use native.Mathlib.Omega.{arith}
@@ -8,8 +8,8 @@ use Rattle.lines.specs.Putting.{Appended}
 use Rattle.blocks.specs.Bytes.{flat}
 use Rattle.report.proofs.Puts.{pieces-start, pieces-turn}
 use Rattle.report.proofs.Reports.{lentLine, words-end}
-use Rattle.report.proofs.put_words.Statement.{statement}
-use Rattle.report.proofs.put_words.Tie as tie
+use Rattle.report.proofs.printing.put_words.Statement.{statement}
+use Rattle.report.proofs.printing.put_words.Tie as tie
 
 abbrev Inv-loop : tie.InvT-loop
 Inv-loop out₀ at words model n i₀ e₀ out i e = Appended out₀ at (flat i (lentLine words model)) out e × (length out ≡ length out₀) × (i ≤ n) × (e ≤ at + 71 * i)
@@ -40,7 +40,7 @@ put-word-requires c κs =
     let l = c .before .before .before .before in
     let s = l .before .before .before .before in
     let p = s .pre .0 in
-    (omega (arith, p .few), p .narrow (l .loop .i), omega (arith, s .pre .1))
+    (omega (arith, p .few), p .narrow (l .loop .i) (omega arith), omega (arith, s .pre .1))
 
 add-i : tie.Need-add-i Inv-loop μ-loop
 add-i c = search needs

@@ -1,8 +1,8 @@
--- `report::put_refused` meets its contract. Assumes nothing.
+-- `report::printing::put_refused` meets its contract. Assumes nothing.
 use borrow.Author.Needs.{needs}
 use Rattle.report.proofs.Reports.{refused-put}
-use Rattle.report.proofs.put_refused.Statement.{statement}
-use Rattle.report.proofs.put_refused.Tie as tie
+use Rattle.report.proofs.printing.put_refused.Statement.{statement}
+use Rattle.report.proofs.printing.put_refused.Tie as tie
 
 slice-aggregate-put-line : tie.Need-slice-aggregate-put-line
 slice-aggregate-put-line c = search needs

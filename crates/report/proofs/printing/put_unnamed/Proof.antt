@@ -1,8 +1,8 @@
--- `report::put_unnamed` meets its contract. Assumes nothing.
+-- `report::printing::put_unnamed` meets its contract. Assumes nothing.
 use borrow.Author.Needs.{needs}
 use Rattle.report.proofs.Reports.{unnamed-put}
-use Rattle.report.proofs.put_unnamed.Statement.{statement}
-use Rattle.report.proofs.put_unnamed.Tie as tie
+use Rattle.report.proofs.printing.put_unnamed.Statement.{statement}
+use Rattle.report.proofs.printing.put_unnamed.Tie as tie
 
 slice-aggregate-put-line : tie.Need-slice-aggregate-put-line
 slice-aggregate-put-line c = search needs
