@@ -17,7 +17,8 @@ appended-byte l at x h = record { ends = refl; text = rw (add-one at) (take-suc-
 
 pub appended-both : {l xs m ys n : List ℕ} {at e r : ℕ} → Appended l at xs m e → Appended m e ys n r → Appended l at (xs ++ ys) n r
 appended-both {l} {xs} {m} {ys} {n} {at} {e} {r} f g =
-    let behind : drop (e + length ys) m ≡ drop (e + length ys) l = sym (drop-drop (length ys) e m) ∙ ap (drop (length ys)) (f .rest) ∙ drop-drop (length ys) e l in
+    let k = length ys in
+    let behind : drop (e + k) m ≡ drop (e + k) l = sym (drop-drop k e m) ∙ ap (drop k) (f .rest) ∙ drop-drop k e l in
     record {
       ends = omega (arith, f .ends, g .ends, length-append xs ys);
       text = g .text ∙ rw (f .text, append-assoc);

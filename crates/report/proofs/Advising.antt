@@ -3,7 +3,7 @@ use mathlib.Core.Path.{_≡_, refl}
 use mathlib.Core.List.{List}
 use Prim.Native.Nat.{ℕ, _*_, _≤_, _<_}
 use native.Mathlib.Omega.{arith}
-use lib.ListN.{length, take}
+use lib.ListN.{length, take, drop, length-append}
 use Rattle.tighten.specs.Memory.{Cleared}
 use Rattle.cause.specs.Promise.{workLength}
 use Rattle.blocks.specs.declared.Problem.{Problem}
@@ -12,7 +12,7 @@ use Rattle.blocks.specs.Edition.{edition1}
 use Rattle.blocks.specs.Promise.{Reads}
 use Rattle.blocks.proofs.RoundTrip.{read-kept}
 use Rattle.report.specs.declared.Advised.the-variants as answer
-use Rattle.report.specs.Text.{refused}
+use Rattle.report.specs.Text.{textOf, refused}
 use Rattle.report.specs.Printed.{most, Printed}
 use Rattle.report.specs.Promise.{Lent, Asked, Told, told, noWords, noRules, Reports, unread, answered, Advises, size, lines}
 
@@ -45,3 +45,8 @@ module _ {f y z : List ℕ} where
     pub told-lines : {x : Problem} {e : ℕ} {l k l′ k′ : List ℕ} → r ≡ Reading.Ok x → Lent l k
         → Told (x .limit) (take (3 * x .words) y) (take (6 * x .rules) z) l k e l′ k′ → Advises f l k (answer.Lines e) l′ k′
     told-lines q lent (told a p c) = let kept = read-kept (rw q at reads) in lines lent (answered (kept .is) (kept .fine) a) p c
+
+-- the lines are within the lent bytes
+pub lines-within : {f l k m n : List ℕ} {e : ℕ} → Advises f l k (answer.Lines e) m n → e ≤ length m
+lines-within {l = l} (lines {x = x} lent report p c) =
+    rw (p .text) (omega (arith, p .ends, length-append (textOf x) (drop (length (textOf x)) l)))

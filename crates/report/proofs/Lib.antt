@@ -1,5 +1,6 @@
 pub mod Binary
 pub mod Puts
+pub mod Digits
 pub mod Reports
 pub mod Once
 pub mod Cases

@@ -20,7 +20,8 @@ use Rattle.blocks.proofs.Promise.{read-once}
 use Rattle.report.specs.declared.Advised.{Advised}
 use Rattle.report.specs.Text.{Report, textOf}
 use Rattle.report.specs.Printed.{Printed}
-use Rattle.report.specs.Promise.{Answers, found-first, none-named, none-unnamed, gave-up-at, noWords, noRules, Reports, unread, answered, Advises, size, lines}
+use Rattle.report.specs.Promise.{Answers, found-first, none-named, none-unnamed, gave-up-at}
+use Rattle.report.specs.Promise.{noWords, noRules, Reports, unread, answered, Advises, size, lines}
 
 module _ (limit : ℕ) (ws bs : List ℕ) where
   answers-once : {x y : Report} → Answers limit ws bs x → Answers limit ws bs y → x ≡ y

@@ -12,7 +12,8 @@ use Rattle.lines.specs.Putting.{Appended}
 use Rattle.lines.proofs.Appends.{appended-both}
 use Rattle.blocks.specs.Bytes.{flat}
 use Rattle.blocks.proofs.Pieces.{flat-same}
-use Rattle.report.specs.Text.{SAT, UNSAT, UNKNOWN, CAUSE, REFUSED, wordLine, Cause, named, unnamed, sat, unsat, unknown, refused, causeLine, wordLines, textOf}
+use Rattle.report.specs.Text.{SAT, UNSAT, UNKNOWN, CAUSE, REFUSED, wordLine, causeLine, wordLines, textOf}
+use Rattle.report.specs.Text.{Cause, named, unnamed, sat, unsat, unknown, refused}
 use Rattle.report.specs.Printed.{Printed}
 use Rattle.report.proofs.Puts.{pieces-end, printed}
 

@@ -1,3 +1,4 @@
 pub mod Text
 pub mod Printed
 pub mod Promise
+pub mod Digits

@@ -52,8 +52,8 @@ pub fn put_line(out: &mut [u8], at: usize, name: &[u8], numbers: &[u64]) -> usiz
         ⌝ }
 {
     let a = lines::put(out, at, name);
-    let e = lines::number::put_all(out, a, numbers);
-    lines::put(out, e, b"\n")
+    let b = lines::number::put_all(out, a, numbers);
+    lines::put(out, b, b"\n")
 }
 
 // The line of a word: number, width, value: where it ends.

@@ -51,7 +51,8 @@ loop-again : tie.Need-loop-again Inv-loop μ-loop
 loop-again c =
     let l = c .before in
     let s = l .before in
-    (binary-turn (s .args .width) (s .args .value) (l .loop .i) (l .loop .inv .0) (omega arith) (omega (arith, s .pre)), simp length-set (l .loop .inv .1), omega arith)
+    let turn = binary-turn (s .args .width) (s .args .value) (l .loop .i) (l .loop .inv .0) (omega arith) (omega (arith, s .pre)) in
+    (turn, simp length-set (l .loop .inv .1), omega arith)
 
 add-result : tie.Need-add-result Inv-loop μ-loop
 add-result c = search needs

@@ -54,7 +54,8 @@ loop-again c =
     let w = p .before in
     let l = w .before .before .before .before in
     let s = l .before .before .before in (
-      entry-turn (s .args .list .now) (l .loop .i) (w .wide .result) (l .loop .inv .0) (omega (arith, s .pre)) (p .put .ensures) (w .wide .ensures .0) (omega (arith, s .pre)),
+      entry-turn (s .args .list .now) (l .loop .i) (w .wide .result) (l .loop .inv .0) (omega (arith, s .pre)) (p .put .ensures) (w .wide .ensures .0)
+          (omega (arith, s .pre)),
       p .put .kept .0 ∙ simp length-set (l .loop .inv .1),
       omega arith,
       omega (arith, l .loop .inv .3, p .put .ensures .ends, decimal-below 4 (w .wide .result) (omega arith) (omega arith)),

@@ -25,7 +25,8 @@ returns c =
     let e = c .before .before in
     let b = e .before .before .before .before .before in
     let a = b .before .before .before .before in
-    (line-put _ _ (a .put .ensures) (b .put-all .ensures .0) (e .put2 .ensures), omega (arith, a .put .ensures .ends, b .put-all .ensures .1, e .put2 .ensures .ends))
+    let text = line-put _ _ (a .put .ensures) (b .put-all .ensures .0) (e .put2 .ensures) in
+    (text, omega (arith, a .put .ensures .ends, b .put-all .ensures .1, e .put2 .ensures .ends))
 
 pub put-line-spec : {M : Type 1} → statement M
 put-line-spec =

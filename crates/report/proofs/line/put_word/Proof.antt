@@ -65,7 +65,8 @@ put-requires-3 c κs =
     let s = a .before .before .before in
     let p = s .pre in
     let n = length-binary (s .args .width) (s .args .value) in
-    omega (arith, width-end b, d .put2 .ensures .ends, f .put-binary .ensures .ends, a .put .kept .0, b .put-all .kept .0, d .put2 .kept .0, f .put-binary .kept .0)
+    let q = a .put .kept .0 in
+    omega (arith, width-end b, d .put2 .ensures .ends, f .put-binary .ensures .ends, b .put-all .kept .0, d .put2 .kept .0, f .put-binary .kept .0)
 
 same-length : tie.Need-same-length
 same-length c = search needs
