@@ -1,18 +1,16 @@
 -- What the trials for a cause come to, as the report on a problem without settings. Assumes nothing.
-use mathlib.Core.Path.{_≡_, refl, sym, ap, _∙_}
+use mathlib.Core.Path.{_≡_, _∙_}
 use mathlib.Core.List.{List}
-use Prim.Native.Nat.{ℕ, _≤_, _<_}
+use Prim.Native.Nat.{ℕ, _≤_}
 use native.Mathlib.Omega.{arith}
 use lib.ListN.{length, take}
 use lib.Seq.{ext-getD, getD-take, length-take-le}
-use Rattle.checker.specs.declared.Checked.{Checked}
-use Rattle.checker.specs.Lent.{ruleCount, widthsOf, tableOf, rulesOf}
 use Rattle.checker.proofs.Right.{ok-fine}
 use Rattle.words.specs.Table.{Table}
 use Rattle.rules.specs.Tight.{Rule}
 use Rattle.search.specs.Search.{none}
 use Rattle.search.proofs.Outcomes.{found-not-none}
-use Rattle.causes.specs.Cause.{EXISTS, Trims, spared, needed, Causes, exists, trimmed}
+use Rattle.causes.specs.Cause.{EXISTS, Trims, spared, needed, exists, trimmed}
 use Rattle.causes.proofs.One.{same}
 use Rattle.solve.specs.Promise.{Comes}
 use Rattle.cause.specs.declared.Caused.{Caused}
@@ -22,6 +20,7 @@ use Rattle.cause.proofs.Calling.{nothing-refused}
 use Rattle.report.specs.Text.{unsat, named, unnamed}
 use Rattle.report.specs.Printed.{Printed}
 use Rattle.report.specs.Promise.{none-named, none-unnamed, Asked, Told, told}
+use Rattle.report.proofs.Telling.{apart}
 
 -- a list of 252 entries does for a cause
 pub trials-asked : {limit g : ℕ} {ws bs l k : List ℕ} (s : List ℕ) → length s ≡ 252 → Asked limit ws bs l k → Comes limit ws bs (none g)
@@ -44,9 +43,6 @@ no-trim (needed s r) = no-trim r
 no-exists : (limit : ℕ) (ws bs : List ℕ) {g h : ℕ} → Named limit ws bs (EXISTS g) → Comes limit ws bs (none h) → ⊥
 no-exists limit ws bs (exists s) comes = found-not-none (same s comes)
 no-exists limit ws bs (trimmed s r) comes = no-trim r
-
-apart : {n p : ℕ} {x : Checked} → x ≡ Checked.Refused n p → x ≡ Checked.Ok → ⊥
-apart a b = let z : _≡_ {A = ℕ} 0 1 = cc in omega arith
 
 module _ {limit : ℕ} {ws bs s k : List ℕ} where
   cause-at : {g sum j : ℕ} {l l′ s′ n : List ℕ} {e : ℕ} → Causing limit ws bs s k (caused.Cause sum j) s′ n → Comes limit ws bs (none g)

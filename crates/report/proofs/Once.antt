@@ -1,15 +1,12 @@
 -- Two results that the promise of `advise` allows are equal: the answer, every lent byte, and every number of work memory.
 -- Assumes nothing.
-use mathlib.Core.Path.{_≡_, refl, sym, ap, _∙_}
-use mathlib.Core.List.{List, _++_}
+use mathlib.Core.Path.{_≡_, refl}
+use mathlib.Core.List.{List}
 use Prim.Native.Nat.{ℕ}
 use native.Mathlib.Omega.{arith}
-use lib.ListN.{length, drop}
 use Rattle.checker.specs.Lent.{widthsOf, tableOf, rulesOf}
 use Rattle.tighten.proofs.Once.{cleared-once}
-use Rattle.search.specs.Search.{found, none, gave-up}
 use Rattle.search.proofs.Outcomes.{found-not-none, found-not-gave-up, none-not-gave-up}
-use Rattle.causes.specs.Cause.{CAUSE, GAVE-UP}
 use Rattle.causes.proofs.One.{one-cause}
 use Rattle.solve.proofs.Once.{comes-once}
 use Rattle.blocks.specs.declared.Reading.{Reading}
@@ -18,8 +15,7 @@ use Rattle.blocks.proofs.Pieces.{length-zeros}
 use Rattle.blocks.proofs.ReadBack.{one-problem}
 use Rattle.blocks.proofs.Promise.{read-once}
 use Rattle.report.specs.declared.Advised.{Advised}
-use Rattle.report.specs.Text.{Report, textOf}
-use Rattle.report.specs.Printed.{Printed}
+use Rattle.report.specs.Text.{Report}
 use Rattle.report.specs.Promise.{Answers, found-first, none-named, none-unnamed, gave-up-at}
 use Rattle.report.specs.Promise.{noWords, noRules, Reports, unread, answered, Advises, size, lines}
 

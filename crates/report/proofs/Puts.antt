@@ -1,11 +1,11 @@
 -- Lines put one after the other into lent bytes. Assumes nothing.
-use mathlib.Core.Path.{_≡_, refl, sym, ap, _∙_, subst}
+use mathlib.Core.Path.{_≡_, sym, ap, _∙_, subst}
 use mathlib.Core.List.{List, [], _∷_, _++_, map, append-assoc, append-nil}
 use Prim.Native.Nat.{ℕ, _+_, _≤_, _<_}
 use native.Mathlib.Nat.{zero-add}
 use native.Mathlib.Numerals.{add-one}
 use native.Mathlib.Omega.{arith}
-use lib.ListN.{length, take, drop, set, getD, take-append-drop}
+use lib.ListN.{length, take, set, getD, take-append-drop}
 use Rattle.lines.specs.Text.{decimal, items, spaced, line}
 use Rattle.lines.specs.Putting.{Appended}
 use Rattle.lines.proofs.Appends.{appended-none, appended-both}

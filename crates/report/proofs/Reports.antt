@@ -1,9 +1,7 @@
 -- The lines of each report, put one after the other, are the report. Assumes nothing.
-use mathlib.Core.Path.{_≡_, refl, sym, ap, _∙_}
+use mathlib.Core.Path.{_≡_, sym, ap, _∙_}
 use mathlib.Core.List.{List, [], _∷_, _++_, map, append-assoc}
-use Prim.Native.Nat.{ℕ, _<_, _≤_}
-use native.Mathlib.Omega.{arith}
-use lib.ListN.{length}
+use Prim.Native.Nat.{ℕ, _≤_}
 use Rattle.words.specs.Table.{at}
 use Rattle.checker.specs.Lent.{wordCount, widthAt, widthsOf}
 use Rattle.checker.proofs.Series.{length-series, series-at}

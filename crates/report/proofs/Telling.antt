@@ -1,7 +1,7 @@
 -- What the search of a problem comes to, as the report on it. Assumes nothing.
 use mathlib.Core.Path.{_≡_, ap, _∙_}
 use mathlib.Core.List.{List, [], _∷_, _++_}
-use Prim.Native.Nat.{ℕ, _≤_, _<_}
+use Prim.Native.Nat.{ℕ, _<_}
 use native.Mathlib.Omega.{arith}
 use lib.ListN.{length}
 use Rattle.words.specs.Table.{at}
@@ -49,7 +49,7 @@ pub told-after : {limit e : ℕ} {ws bs l k n l′ n′ : List ℕ} → Cleared 
 told-after c (told a p d) = told a p (record { size = d .size ∙ c .size; zeros = d .zeros })
 
 -- what is refused is not given
-apart : {n p : ℕ} {x : Checked} → x ≡ Checked.Refused n p → x ≡ Checked.Ok → ⊥
+pub apart : {n p : ℕ} {x : Checked} → x ≡ Checked.Refused n p → x ≡ Checked.Ok → ⊥
 apart a b = let z : _≡_ {A = ℕ} 0 1 = cc in omega arith
 
 -- ---- the search

@@ -1,7 +1,7 @@
 -- What putting a report into lent bytes promises, and what is asked for. Assumes nothing: these are definitions.
 use mathlib.Core.Path.{_≡_}
 use mathlib.Core.List.{List, _++_}
-use Prim.Native.Nat.{ℕ, _*_, _≤_, _<_}
+use Prim.Native.Nat.{ℕ, _≤_, _<_}
 use lib.ListN.{length, drop}
 use Rattle.checker.specs.Lent.{wordCount, widthAt}
 use Rattle.report.specs.Text.{Report, textOf}

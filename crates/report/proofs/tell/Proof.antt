@@ -1,6 +1,6 @@
 -- `report::tell` meets its contract. Assumes nothing.
 use borrow.Author.Needs.{needs}
-use mathlib.Core.Path.{refl, _∙_}
+use mathlib.Core.Path.{refl}
 use Rattle.report.proofs.Telling.{valued, found-told, none-comes, gave-up-told, asked-after, told-after, never-refused}
 use Rattle.report.proofs.tell.Statement.{statement}
 use Rattle.report.proofs.tell.Tie as tie

@@ -1,9 +1,9 @@
 -- `report::line::put_entries` meets its contract: the entries passed are put, of at most five digits each. Assumes nothing.
-use mathlib.Core.Path.{_≡_, refl, sym, subst, _∙_}
+use mathlib.Core.Path.{_≡_, refl, _∙_}
 use Prim.Native.Nat.{_+_, _-_, _*_, _≤_}
 use native.Mathlib.Omega.{arith}
 use borrow.Author.Needs.{needs}
-use lib.ListN.{length, take, getD, length-set}
+use lib.ListN.{length, take, length-set}
 use Rattle.lines.specs.Text.{spaced}
 use Rattle.lines.specs.Putting.{Appended}
 use Rattle.lines.proofs.Decimals.{decimal-below}
