@@ -57,5 +57,6 @@ line-put {l} {p} {q} {m} {a} {b} {e} name word ns f room g h more =
     let whole = appended-both f (appended-both (appended-byte p a 32 room) (appended-both g (appended-both h (appended-byte m e 10 more)))) in
     record {
       within = rw length-set (omega arith);
-      text = whole .text ∙ sym (append-assoc name ((32 ∷ word) ++ spaced ns) (10 ∷ []) ∙ ap (λ (t : List ℕ). name ++ t) (append-assoc (32 ∷ word) (spaced ns) (10 ∷ [])));
+      text = whole .text
+          ∙ sym (append-assoc name ((32 ∷ word) ++ spaced ns) (10 ∷ []) ∙ ap (λ (t : List ℕ). name ++ t) (append-assoc (32 ∷ word) (spaced ns) (10 ∷ [])));
     }

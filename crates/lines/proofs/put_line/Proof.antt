@@ -33,8 +33,9 @@ put-all-requires c κs =
     omega (arith, s .pre, a .put .ensures .ends, b .put2 .ensures .ends, long)
 
 -- after all calls: what was lent is as long as it was, and has room for the end of the line
-long : (c : tie.After-slice-known4) → length (c .before .before .put-all .last .0)
-    ≡ length (now (c .before .before .before .before .before .before .before .before .before .before .before .before .before .before .before .before .args .out))
+long : (c : tie.After-slice-known4)
+    → let s = c .before .before .before .before .before .before .before .before .before .before .before .before .before .before .before .before in
+    length (c .before .before .put-all .last .0) ≡ length (now (s .args .out))
 long c =
     let e = c .before .before in
     let b = e .before .before .before .before in

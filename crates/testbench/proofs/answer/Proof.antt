@@ -12,8 +12,15 @@ use Rattle.testbench.proofs.answer.Statement.{statement}
 use Rattle.testbench.proofs.answer.Tie as tie
 
 -- the line as it was read
-line-read : (c : tie.After-known-told) → LineAt (now (c .before .before .before .before .before .before .before .before .before .before .before .args .line)) (c .before .name .given .0 .0) (c .before .name .given .0 .1 .0) (c .before .name .given .0 .1 .1 .0) (c .before .before .before .before .parse .last .1 .0)
-line-read c = subst (λ (x : Parsed). Parses (now (c .before .before .before .before .before .before .before .before .before .before .before .args .line)) x (c .before .before .before .before .parse .last .1 .0)) (c .before .name .given .1) (c .before .before .before .before .parse .ensures)
+line-read : (c : tie.After-known-told)
+    → let p = c .before .before .before .before in
+    let s = p .before .before .before .before .before .before .before in
+    let g = c .before .name .given .0 in
+    LineAt (now (s .args .line)) (g .0) (g .1 .0) (g .1 .1 .0) (p .parse .last .1 .0)
+line-read c =
+    let p = c .before .before .before .before in
+    let s = p .before .before .before .before .before .before .before in
+    subst (λ (x : Parsed). Parses (now (s .args .line)) x (p .parse .last .1 .0)) (c .before .name .given .1) (p .parse .ensures)
 
 -- the second reading has the room of the first
 room : (c : tie.After-parse2) → c .before .before .before .name .given .0 .1 .1 .0 ≤ length (c .parse2 .last .1 .0)
@@ -23,7 +30,9 @@ room c =
     let n = p .before .before in
     omega (arith, line-read k .within, p .parse .kept .1 .0, c .parse2 .kept .1 .0, n .numbers2 .ensures, n .before .numbers .ensures)
 
-short : (c : tie.After-known-told) → c .before .name .given .0 .0 ≤ length (now (c .before .before .before .before .before .before .before .before .before .before .before .args .line))
+short : (c : tie.After-known-told)
+    → let s = c .before .before .before .before .before .before .before .before .before .before .before in
+    c .before .name .given .0 .0 ≤ length (now (s .args .line))
 short c = omega (arith, line-read c .name, line-read c .word)
 
 returns : tie.Need-returns
@@ -89,7 +98,11 @@ slice-aggregate-call-3 c = sym (length-take-le _ _ (room (c .before .before .bef
 call-requires : tie.Need-call-requires
 call-requires c κs =
     let k = c .before .before .before .before .before .before .before .before .before in
-    record { short = simp length-take (omega (arith, c .before .before .before .before .before .if2 .left)); room = k .before .before .before .before .before .before .before .before .if1 .left }
+    let s = k .before .before .before .before .before .before .before .before in
+    record {
+      short = simp length-take (omega (arith, c .before .before .before .before .before .if2 .left));
+      room = s .if1 .left;
+    }
 
 same-length : tie.Need-same-length
 same-length c = search needs

@@ -70,7 +70,8 @@ loop-again c =
     let d = c .before .before .before in
     let l = d .before .before .before in
     let fits = l .loop .inv .1 in
-    (digit-next (d .digit2 .result) (l .loop .inv .0) (omega arith) (omega arith) (omega arith) (d .digit2 .ensures .0 (omega arith)) (omega arith), omega arith)
+    let is = d .digit2 .ensures .0 (omega arith) in
+    (digit-next (d .digit2 .result) (l .loop .inv .0) (omega arith) (omega arith) (omega arith) is (omega arith), omega arith)
 
 returns-6 : tie.Need-returns-6 Inv-loop μ-loop
 returns-6 c = search needs

@@ -62,7 +62,8 @@ add-n c = search needs
 
 -- the number that was read
 told : (c : tie.After-known-told Inv-loop μ-loop)
-    → NumberAt (c .before .before .before .before .before .before .before .before .before .before .before .args .s .now) (c .before .before .before .before .before .before .before .before .loop .e + 1) (c .before .v .given .0 .0) (c .before .v .given .0 .1 .0)
+    → let l = c .before .before .before .before .before .before .before .before in
+    NumberAt (l .before .before .before .args .s .now) (l .loop .e + 1) (c .before .v .given .0 .0) (c .before .v .given .0 .1 .0)
 told c = subst (IsNumber _ _) (c .before .v .given .1) (c .before .before .before .read .ensures)
 
 loop-less : tie.Need-loop-less Inv-loop μ-loop

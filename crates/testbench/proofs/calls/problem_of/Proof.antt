@@ -10,11 +10,15 @@ use Rattle.testbench.proofs.calls.problem_of.Statement.{statement}
 use Rattle.testbench.proofs.calls.problem_of.Tie as tie
 
 -- where the words end, and where the rules do
-words-end : (c : tie.After-known-told) → Ends (now (c .before .before .before .before .before .before .args .numbers)) (c .before .before .before .before .before .before .args .own) (Before (c .before .end .given .0 .0))
-words-end c = subst (λ (x : Listed). Ends (now (c .before .before .before .before .before .before .args .numbers)) (c .before .before .before .before .before .before .args .own) x) (c .before .end .given .1) (c .before .before .before .list-end .ensures)
+words-end : (c : tie.After-known-told)
+    → let s = c .before .before .before .before .before .before in
+    Ends (now (s .args .numbers)) (s .args .own) (Before (c .before .end .given .0 .0))
+words-end c = subst (Ends _ _) (c .before .end .given .1) (c .before .before .before .list-end .ensures)
 
-rules-end : (c : tie.After-known-told2) → Ends (now (c .before .before .before .before .before .before .before .before .before .before .args .numbers)) (c .before .before .before .before .before .end .given .0 .0) (Before (c .before .last .given .0 .0))
-rules-end c = subst (λ (x : Listed). Ends (now (c .before .before .before .before .before .before .before .before .before .before .args .numbers)) (c .before .before .before .before .before .end .given .0 .0) x) (c .before .last .given .1) (c .before .before .before .list-end2 .ensures)
+rules-end : (c : tie.After-known-told2)
+    → let s = c .before .before .before .before .before .before .before .before .before .before in
+    Ends (now (s .args .numbers)) (c .before .before .before .before .before .end .given .0 .0) (Before (c .before .last .given .0 .0))
+rules-end c = subst (Ends _ _) (c .before .last .given .1) (c .before .before .before .list-end2 .ensures)
 
 list-end-requires : tie.Need-list-end-requires
 list-end-requires c κs = search needs
