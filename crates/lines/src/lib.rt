@@ -4,14 +4,18 @@ mod list;
 mod number;
 
 pub use list::all;
+pub use list::all_bytes;
 pub use list::list_end;
 pub use list::narrow;
 pub use list::same;
-ghost use mathlib.Core.List.{_∷_, []};
+ghost use mathlib.Core.Path.{_≡_};
+ghost use mathlib.Core.List.{_∷_, [], _++_};
+ghost use lib.Dec.{leb};
 ghost use Prim.Native.Nat.{_+_, _*_, _≤_};
 ghost use lib.ListN.{length};
 ghost use Rattle.lines.specs.Reading.{Parses};
-ghost use Rattle.lines.specs.Putting.{Appended, Line};
+ghost use Rattle.lines.specs.Text.{lineOf};
+ghost use Rattle.lines.specs.Putting.{Appended, LinePut};
 
 pub const BLANK: u8 = b' ';
 
@@ -61,10 +65,32 @@ fn put(out: &mut [u8], at: usize, s: &[u8]) -> usize
     at + i
 }
 
-// A line put at the start of `out`, with its end: how many bytes it has.
-pub fn put_line(out: &mut [u8], name: &[u8], word: &[u8], numbers: &[u64]) -> usize
+// Whether so many bytes have room for a line and its end, with 21 bytes for each of its numbers.
+fn has_room(name: usize, word: usize, count: usize, room: usize) -> bool
+    ensures { λ r. ⌜ r ≡ leb (name + word + 21 * count + 2) room ⌝ }
+{
+    if room / 21 < count {
+        return false;
+    }
+    let left = room - 21 * count;
+    if left < 2 {
+        return false;
+    }
+    if left - 2 < name {
+        return false;
+    }
+    if left - 2 - name < word {
+        return false;
+    }
+    true
+}
+
+// A line and its end put where there is room for them: where they end.
+fn put_whole(out: &mut [u8], name: &[u8], word: &[u8], numbers: &[u64]) -> usize
     requires { ⌜ length (now name) + length (now word) + 21 * length (now numbers) + 2 ≤ length (now out) ⌝ }
-    ensures { λ r. ⌜ Line (now (name .entry)) (now (word .entry)) (now (numbers .entry)) (now (out .exit)) r ⌝ }
+    ensures { λ r. ⌜
+        Appended (now (out .entry)) 0 (lineOf (now (name .entry)) (now (word .entry)) (now (numbers .entry)) ++ (10 ∷ [])) (now (out .exit)) r
+        ⌝ }
 {
     let a = put(out, 0, name);
     out[a] = BLANK;
@@ -72,4 +98,16 @@ pub fn put_line(out: &mut [u8], name: &[u8], word: &[u8], numbers: &[u64]) -> us
     let e = number::put_all(out, b, numbers);
     out[e] = END;
     e + 1
+}
+
+// A line put at the start of `out`, with its end: how many bytes it has. Where there may be no room for it nothing is put, and the answer is 0.
+pub fn put_line(out: &mut [u8], name: &[u8], word: &[u8], numbers: &[u64]) -> usize
+    ensures { λ r. ⌜
+        LinePut (now (name .entry)) (now (word .entry)) (now (numbers .entry)) (now (out .entry)) (now (out .exit)) r
+        ⌝ }
+{
+    if has_room(name.len(), word.len(), numbers.len(), out.len()) {
+        return put_whole(out, name, word, numbers);
+    }
+    0
 }

@@ -1,9 +1,9 @@
--- The parts of a line's numbers, and the room that an answer needs. Assumes nothing: these are definitions.
+-- The parts of a line's numbers. Assumes nothing: these are definitions.
 use mathlib.Core.List.{List}
 use Prim.Native.Nat.{ℕ, _+_, _≤_, _<_}
 use lib.ListN.{length}
-use Rattle.testbench.specs.declared.Problem.{Problem}
-use Rattle.testbench.specs.declared.Problem.the-variants.{Is, Bad}
+use Rattle.bench.specs.declared.Problem.{Problem}
+use Rattle.bench.specs.declared.Problem.the-variants.{Is, Bad}
 
 -- after the own numbers and a count, words up to end, at most 128 numbers; then a count, and so many rules, for which there is room
 pub record PartsAt (ns : List ℕ) (own : ℕ) (bytes : List ℕ) (end count : ℕ) : Type 0 where
@@ -15,8 +15,3 @@ pub record PartsAt (ns : List ℕ) (own : ℕ) (bytes : List ℕ) (end count : �
 abbrev pub Parts : List ℕ → ℕ → List ℕ → Problem → Type 0
 Parts ns own bytes (Is end count) = PartsAt ns own bytes end count
 Parts ns own bytes Bad = Unit {0}
-
--- a name of at most 64 bytes, and 4,096 bytes for the line
-pub record Told (name out : List ℕ) : Type 0 where
-  pub short : length name ≤ 64
-  pub room : 4096 ≤ length out

@@ -1,14 +1,13 @@
--- `testbench::calls::tighten` meets its contract. Assumes nothing.
+-- `testbench::tightening::tighten` meets its contract. Assumes nothing.
 use mathlib.Core.Path.{subst, sym}
 use native.Mathlib.Omega.{arith}
 use borrow.Author.Needs.{needs}
 use lib.Seq.{length-take-le}
-use lib.ListN.{getD, length-take, length-drop}
+use lib.ListN.{getD}
 use denote.Ref.{now}
-use Rattle.testbench.specs.declared.Problem.{Problem}
-use Rattle.testbench.specs.Parts.{Parts, PartsAt}
-use Rattle.testbench.proofs.calls.tighten.Statement.{statement}
-use Rattle.testbench.proofs.calls.tighten.Tie as tie
+use Rattle.bench.specs.Parts.{Parts, PartsAt}
+use Rattle.testbench.proofs.tightening.tighten.Statement.{statement}
+use Rattle.testbench.proofs.tightening.tighten.Tie as tie
 
 -- the parts that the problem has
 parts : (c : tie.After-known-told)
@@ -81,10 +80,7 @@ slice-aggregate-tighten-lent-2 c =
     sym (length-take-le (getD (now (s .args .kept)) 0 0) (w .work .result) (omega (arith, w .work .ensures, w .before .if2 .left)))
 
 tighten-lent-requires : tie.Need-tighten-lent-requires
-tighten-lent-requires c κs =
-    let k = c .before .before .before .before .before .before .before .before .before in
-    let s = k .before .before .before .before .before .before .before .before .before .before .before in
-    (s .pre, simp (length-take, length-drop) (omega (arith, parts k .most)))
+tighten-lent-requires c κs = search needs
 
 same-length : tie.Need-same-length
 same-length c = search needs

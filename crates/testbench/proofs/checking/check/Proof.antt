@@ -1,13 +1,12 @@
--- `testbench::calls::check` meets its contract. Assumes nothing.
+-- `testbench::checking::check` meets its contract. Assumes nothing.
 use mathlib.Core.Path.{subst, sym}
 use native.Mathlib.Omega.{arith}
 use borrow.Author.Needs.{needs}
 use lib.Seq.{length-take-le}
 use denote.Ref.{now}
-use Rattle.testbench.specs.declared.Problem.{Problem}
-use Rattle.testbench.specs.Parts.{Parts, PartsAt}
-use Rattle.testbench.proofs.calls.check.Statement.{statement}
-use Rattle.testbench.proofs.calls.check.Tie as tie
+use Rattle.bench.specs.Parts.{Parts, PartsAt}
+use Rattle.testbench.proofs.checking.check.Statement.{statement}
+use Rattle.testbench.proofs.checking.check.Tie as tie
 
 -- the parts that the problem has
 parts : (c : tie.After-known-told)

@@ -1,0 +1,30 @@
+// The call `check LIMIT`. Then come the words and the rules. Nothing is lent to it that it could alter.
+use bench::Problem;
+use bench::memory;
+use bench::problem_of;
+use bench::tell;
+ghost use Prim.Native.Nat.{_≤_};
+ghost use lib.ListN.{length};
+
+pub fn check(name: &[u8], numbers: &[u64], out: &mut [u8]) -> usize
+    ensures { λ r. ⌜ r ≤ length (now (out .exit)) ⌝ }
+{
+    let mut rules = memory::rules();
+    let Problem::Is { end, count } = problem_of(numbers, 1, &mut rules) else {
+        return 0;
+    };
+    let limit = numbers[0];
+    if 4294967295 < limit {
+        return 0;
+    }
+    match checker::check(&numbers[2..end], &rules[..count], limit as u32) {
+        checker::Checked::Ok => tell(out, name, true, b"ok", &[]),
+        checker::Checked::Refused(number, place) => tell(
+            out,
+            name,
+            true,
+            b"refused",
+            &[number, place],
+        ),
+    }
+}
