@@ -1,4 +1,4 @@
-// Block files on the test bench: the calls `read` and `write`.
+// Block files on the test benchtop: the calls `read` and `write`.
 mod file;
 mod list;
 mod read;

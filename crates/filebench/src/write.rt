@@ -1,11 +1,11 @@
 // The call `write LENGTH LIMIT`: how many bytes are lent for the file, and the limit. Then come the words and the rules.
 use crate::FILE;
 use crate::list::put_pairs;
-use bench::Problem;
-use bench::memory;
-use bench::memory::DIRT_BYTE;
-use bench::problem_of;
-use bench::tell;
+use benchtop::Problem;
+use benchtop::memory;
+use benchtop::memory::DIRT_BYTE;
+use benchtop::problem_of;
+use benchtop::tell;
 use blocks::Written;
 ghost use Prim.Native.Nat.{_≤_};
 ghost use lib.ListN.{length};

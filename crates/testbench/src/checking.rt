@@ -1,8 +1,8 @@
 // The call `check LIMIT`. Then come the words and the rules. Nothing is lent to it that it could alter.
-use bench::Problem;
-use bench::memory;
-use bench::problem_of;
-use bench::tell;
+use benchtop::Problem;
+use benchtop::memory;
+use benchtop::problem_of;
+use benchtop::tell;
 ghost use Prim.Native.Nat.{_≤_};
 ghost use lib.ListN.{length};
 

@@ -1,10 +1,10 @@
-// A board on the test bench: its line is read, the call is made on lent memory, and what came back is put as a line.
+// A board on the test benchtop: its line is read, the call is made on lent memory, and what came back is put as a line.
 // A line is a name, a word for the call, the call's own numbers, then lists, each after its count: the words and the rules, or the bytes of a file.
 mod calls;
 mod checking;
 mod tightening;
 
-use bench::memory;
+use benchtop::memory;
 use lines::Parsed;
 ghost use Prim.Native.Nat.{_≤_};
 ghost use lib.ListN.{length};

@@ -1,8 +1,8 @@
 // The call `tighten WORK`, the length of work memory. Then come the words and the rules.
-use bench::Problem;
-use bench::memory;
-use bench::problem_of;
-use bench::tell;
+use benchtop::Problem;
+use benchtop::memory;
+use benchtop::problem_of;
+use benchtop::tell;
 use tighten::Answer;
 ghost use Prim.Native.Nat.{_≤_};
 ghost use lib.ListN.{length};

@@ -4,7 +4,7 @@ use native.Mathlib.Omega.{arith}
 use lib.ListN.{length-take}
 use lib.Seq.{length-take-le}
 use denote.Ref.{now}
-use Rattle.bench.specs.Parts.{Parts, PartsAt}
+use Rattle.benchtop.specs.Parts.{Parts, PartsAt}
 use borrow.Author.Needs.{needs}
 use Rattle.filebench.proofs.write.write.Statement.{statement}
 use Rattle.filebench.proofs.write.write.Tie as tie

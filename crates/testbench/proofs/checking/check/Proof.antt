@@ -4,7 +4,7 @@ use native.Mathlib.Omega.{arith}
 use borrow.Author.Needs.{needs}
 use lib.Seq.{length-take-le}
 use denote.Ref.{now}
-use Rattle.bench.specs.Parts.{Parts, PartsAt}
+use Rattle.benchtop.specs.Parts.{Parts, PartsAt}
 use Rattle.testbench.proofs.checking.check.Statement.{statement}
 use Rattle.testbench.proofs.checking.check.Tie as tie
 

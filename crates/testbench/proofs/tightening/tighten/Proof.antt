@@ -5,7 +5,7 @@ use borrow.Author.Needs.{needs}
 use lib.Seq.{length-take-le}
 use lib.ListN.{getD}
 use denote.Ref.{now}
-use Rattle.bench.specs.Parts.{Parts, PartsAt}
+use Rattle.benchtop.specs.Parts.{Parts, PartsAt}
 use Rattle.testbench.proofs.tightening.tighten.Statement.{statement}
 use Rattle.testbench.proofs.tightening.tighten.Tie as tie
 

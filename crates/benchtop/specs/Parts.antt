@@ -2,8 +2,8 @@
 use mathlib.Core.List.{List}
 use Prim.Native.Nat.{ℕ, _+_, _≤_, _<_}
 use lib.ListN.{length}
-use Rattle.bench.specs.declared.Problem.{Problem}
-use Rattle.bench.specs.declared.Problem.the-variants.{Is, Bad}
+use Rattle.benchtop.specs.declared.Problem.{Problem}
+use Rattle.benchtop.specs.declared.Problem.the-variants.{Is, Bad}
 
 -- after the own numbers and a count, words up to end, at most 128 numbers; then a count, and so many rules, for which there is room
 pub record PartsAt (ns : List ℕ) (own : ℕ) (bytes : List ℕ) (end count : ℕ) : Type 0 where

@@ -1,4 +1,4 @@
--- `bench::problem_of` meets its contract. Assumes nothing.
+-- `benchtop::problem_of` meets its contract. Assumes nothing.
 use mathlib.Core.Path.{subst}
 use native.Mathlib.Omega.{arith}
 use borrow.Author.Needs.{needs}
@@ -6,8 +6,8 @@ use denote.Ref.{now}
 use Rattle.lines.specs.declared.Listed.{Listed}
 use Rattle.lines.specs.declared.Listed.the-variants.{Before}
 use Rattle.lines.specs.Lists.{Ends}
-use Rattle.bench.proofs.problem_of.Statement.{statement}
-use Rattle.bench.proofs.problem_of.Tie as tie
+use Rattle.benchtop.proofs.problem_of.Statement.{statement}
+use Rattle.benchtop.proofs.problem_of.Tie as tie
 
 -- where the words end, and where the rules do
 words-end : (c : tie.After-known-told)

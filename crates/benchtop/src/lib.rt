@@ -4,8 +4,8 @@ pub mod memory;
 use lines::Listed;
 ghost use Prim.Native.Nat.{_≤_};
 ghost use lib.ListN.{length};
-ghost use Rattle.bench.specs.Parts.{Parts};
-ghost use Rattle.bench.specs.Told.{Told};
+ghost use Rattle.benchtop.specs.Parts.{Parts};
+ghost use Rattle.benchtop.specs.Told.{Told};
 
 // The most numbers of words that a line may ask for.
 const WORDS: usize = 128;

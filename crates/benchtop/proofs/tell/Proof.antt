@@ -1,7 +1,7 @@
--- `bench::tell` meets its contract. Assumes nothing.
+-- `benchtop::tell` meets its contract. Assumes nothing.
 use borrow.Author.Needs.{needs}
-use Rattle.bench.proofs.tell.Statement.{statement}
-use Rattle.bench.proofs.tell.Tie as tie
+use Rattle.benchtop.proofs.tell.Statement.{statement}
+use Rattle.benchtop.proofs.tell.Tie as tie
 
 put-line-requires : tie.Need-put-line-requires
 put-line-requires c κs = search needs
