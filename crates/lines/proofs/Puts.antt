@@ -60,7 +60,8 @@ line-put {l} {p} {q} {m} {a} {b} {e} name word ns f room g h more =
     rw same whole
 
 -- a line that fits is put, and else nothing
-pub line-told : {name word ns l m : List ℕ} {r : ℕ} → fits name word ns l ≡ true → Appended l 0 (lineOf name word ns ++ (10 ∷ [])) m r → LinePut name word ns l m r
+pub line-told : {name word ns l m : List ℕ} {r : ℕ} → fits name word ns l ≡ true → Appended l 0 (lineOf name word ns ++ (10 ∷ [])) m r
+    → LinePut name word ns l m r
 line-told {name} {word} {ns} {l} {m} {r} e f = record {
   answer = rw e (f .ends ∙ zero-add (length (lineOf name word ns ++ (10 ∷ []))) ∙ length-append (lineOf name word ns) (10 ∷ []));
   text = rw e (f .text);

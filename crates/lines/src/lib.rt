@@ -8,11 +8,12 @@ pub use list::all_bytes;
 pub use list::list_end;
 pub use list::narrow;
 pub use list::same;
+use number::Numbers;
 ghost use mathlib.Core.Path.{_≡_};
 ghost use mathlib.Core.List.{_∷_, [], _++_};
 ghost use lib.Dec.{leb};
 ghost use Prim.Native.Nat.{_+_, _*_, _≤_};
-ghost use lib.ListN.{length};
+ghost use lib.ListN.{length, replicate};
 ghost use Rattle.lines.specs.Reading.{Parses};
 ghost use Rattle.lines.specs.Text.{lineOf};
 ghost use Rattle.lines.specs.Putting.{Appended, LinePut};
@@ -37,19 +38,33 @@ pub enum Listed {
     Cut,
 }
 
-// A line, without its end, read: where its name and its word end, and its numbers at the start of `numbers`.
+// All numbers made 0.
+fn clear(numbers: &mut [u64])
+    ensures { λ _. ⌜ now (numbers .exit) ≡ replicate (length (now (numbers .entry))) 0 ⌝ }
+{
+    let mut i = 0;
+    while i < numbers.len() {
+        numbers[i] = 0;
+        i += 1;
+    }
+}
+
+// A line, without its end, read: where its name and its word end, and its numbers at the start of `numbers`. Where it is no line, or has more numbers
+// than there is room for, they are all made 0.
 pub fn parse(line: &[u8], numbers: &mut [u64]) -> Parsed
-    ensures { λ r. ⌜ Parses (now (line .entry)) r (now (numbers .exit)) ⌝ }
+    ensures { λ r. ⌜ Parses (now (line .entry)) (now (numbers .entry)) (now (numbers .exit)) r ⌝ }
 {
     let name = bytes::scan::find(line, 0, line.len(), BLANK);
     if name == line.len() {
+        clear(numbers);
         return Parsed::Bad;
     }
     let word = bytes::scan::find(line, name + 1, line.len(), BLANK);
-    match number::read_all(line, word, numbers) {
-        number::Numbers::All(count) => Parsed::Line { name, word, count },
-        number::Numbers::Bad => Parsed::Bad,
-    }
+    let Numbers::All(count) = number::read_all(line, word, numbers) else {
+        clear(numbers);
+        return Parsed::Bad;
+    };
+    Parsed::Line { name, word, count }
 }
 
 // The bytes of s put at `at`: where they end.

@@ -5,7 +5,6 @@ use native.Mathlib.Omega.{arith}
 use lib.ListN.{length}
 use lib.Seq.{length-take-le}
 use denote.Ref.{now}
-use Rattle.lines.specs.declared.Parsed.{Parsed}
 use Rattle.lines.specs.Reading.{Parses, LineAt}
 use borrow.Author.Needs.{needs}
 use Rattle.testbench.proofs.answer.Statement.{statement}
@@ -16,11 +15,8 @@ line-read : (c : tie.After-known-told)
     → let p = c .before .before .before .before in
     let s = p .before .before .before .before .before .before in
     let g = c .before .name .given .0 in
-    LineAt (now (s .args .line)) (g .0) (g .1 .0) (g .1 .1 .0) (p .parse .last .1 .0)
-line-read c =
-    let p = c .before .before .before .before in
-    let s = p .before .before .before .before .before .before in
-    subst (λ (x : Parsed). Parses (now (s .args .line)) x (p .parse .last .1 .0)) (c .before .name .given .1) (p .parse .ensures)
+    LineAt (now (s .args .line)) (g .0) (g .1 .0) (g .1 .1 .0) (p .before .before .before .numbers .result) (p .parse .last .1 .0)
+line-read c = subst (Parses _ _ _) (c .before .name .given .1) (c .before .before .before .before .parse .ensures)
 
 -- the second reading has the room of the first
 room : (c : tie.After-parse2) → c .before .before .before .name .given .0 .1 .1 .0 ≤ length (c .parse2 .last .1 .0)
@@ -66,7 +62,9 @@ slice-aggregate-call : tie.Need-slice-aggregate-call
 slice-aggregate-call c = sym (length-take-le _ _ (short (c .before .before .before .before)))
 
 add-call : tie.Need-add-call
-add-call c = record { fits = omega (arith, short (c .before .before .before .before), line-read (c .before .before .before .before) .name, line-read (c .before .before .before .before) .word) }
+add-call c =
+    let k = c .before .before .before .before in
+    record { fits = omega (arith, short k, line-read k .name, line-read k .word) }
 
 sub-call : tie.Need-sub-call
 sub-call c = omega (arith, line-read (c .before .before .before .before) .name)

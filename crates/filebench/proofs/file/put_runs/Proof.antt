@@ -107,7 +107,9 @@ returns-4 : tie.Need-returns-4 Inv-loop μ-loop
 returns-4 c = search needs
 
 loop-less : tie.Need-loop-less Inv-loop μ-loop
-loop-less c = omega (arith, ended (c .before .before .before .before .before .before .before .before .before .before) .0, ended (c .before .before .before .before .before .before .before .before .before .before) .1)
+loop-less c =
+    let k = c .before .before .before .before .before .before .before .before .before .before in
+    omega (arith, ended k .0, ended k .1)
 
 loop-again : tie.Need-loop-again Inv-loop μ-loop
 loop-again c = search needs
