@@ -16,9 +16,9 @@ pub enum Problem {
     Bad,
 }
 
-// The problem after a call's own numbers: the words stand from own + 1 to its end, and the rules are put as bytes.
+// The problem after a call's own numbers: the words stand from own + 1 to its end, and the rules are put as bytes. Where there is none nothing is put.
 pub fn problem_of(numbers: &[u64], own: usize, rules: &mut [u8]) -> Problem
-    ensures { λ r. ⌜ Parts (now (numbers .entry)) own (now (rules .exit)) r ⌝ }
+    ensures { λ r. ⌜ Parts (now (numbers .entry)) own (now (rules .entry)) (now (rules .exit)) r ⌝ }
 {
     let Listed::Before(end) = lines::list_end(numbers, own) else {
         return Problem::Bad;
@@ -34,9 +34,6 @@ pub fn problem_of(numbers: &[u64], own: usize, rules: &mut [u8]) -> Problem
     }
     let first = end + 1;
     let count = last - first;
-    if rules.len() < count {
-        return Problem::Bad;
-    }
     if lines::narrow(&numbers[first..], rules) {
         return Problem::Is { end, count };
     }

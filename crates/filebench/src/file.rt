@@ -39,9 +39,6 @@ pub fn put_runs(file: &mut [u8], numbers: &[u64], first: usize) -> bool
 {
     let mut at = first;
     while at < numbers.len() {
-        if numbers.len() - at < 4 {
-            return false;
-        }
         let Listed::Before(end) = lines::list_end(numbers, at + 3) else {
             return false;
         };

@@ -1,5 +1,5 @@
 -- `filebench::file::put_runs` meets its contract. Assumes nothing.
-use mathlib.Core.Path.{_≡_, _∙_, subst}
+use mathlib.Core.Path.{_≡_, subst}
 use Prim.Native.Nat.{_+_, _-_}
 use native.Mathlib.Omega.{arith}
 use lib.ListN.{length}
@@ -18,21 +18,12 @@ abbrev μ-loop : tie.MeasureT-loop
 
 -- where the bytes of the run end
 ended : (c : tie.After-known-told Inv-loop μ-loop)
-    → let l = c .before .before .before .before .before .before in
+    → let l = c .before .before .before .before .before in
     Ends (now (l .before .before .before .args .numbers)) (l .loop .at + 3) (Before (c .before .end .given .0 .0))
 ended c = subst (Ends _ _) (c .before .end .given .1) (c .before .before .before .list-end .ensures)
 
 loop-holds : tie.Need-loop-holds Inv-loop μ-loop
 loop-holds c = search needs
-
-sub-if1 : tie.Need-sub-if1 Inv-loop μ-loop
-sub-if1 c = search needs
-
-same-length : tie.Need-same-length Inv-loop μ-loop
-same-length c = search needs
-
-returns : tie.Need-returns Inv-loop μ-loop
-returns c = search needs
 
 add-list-end : tie.Need-add-list-end Inv-loop μ-loop
 add-list-end c = search needs
@@ -46,11 +37,11 @@ enum-known-end c = search needs
 enum-told : tie.Need-enum-told Inv-loop μ-loop
 enum-told c = search needs
 
-same-length-2 : tie.Need-same-length-2 Inv-loop μ-loop
-same-length-2 c = search needs
+same-length : tie.Need-same-length Inv-loop μ-loop
+same-length c = search needs
 
-returns-2 : tie.Need-returns-2 Inv-loop μ-loop
-returns-2 c = search needs
+returns : tie.Need-returns Inv-loop μ-loop
+returns c = search needs
 
 mul-place : tie.Need-mul-place Inv-loop μ-loop
 mul-place c = search needs
@@ -59,31 +50,31 @@ shared-slice-read-place : tie.Need-shared-slice-read-place Inv-loop μ-loop
 shared-slice-read-place c = search needs
 
 add-times : tie.Need-add-times Inv-loop μ-loop
-add-times c = search needs
+add-times c = record { fits = omega (arith, ended (c .before) .0, ended (c .before) .1) }
 
 mul-times : tie.Need-mul-times Inv-loop μ-loop
 mul-times c = search needs
 
 shared-slice-read-times : tie.Need-shared-slice-read-times Inv-loop μ-loop
-shared-slice-read-times c = search needs
+shared-slice-read-times c = omega (arith, ended (c .before .before) .0, ended (c .before .before) .1)
 
 add-step : tie.Need-add-step Inv-loop μ-loop
-add-step c = search needs
+add-step c = record { fits = omega (arith, ended (c .before .before) .0, ended (c .before .before) .1) }
 
 mul-step : tie.Need-mul-step Inv-loop μ-loop
 mul-step c = search needs
 
 shared-slice-read-step : tie.Need-shared-slice-read-step Inv-loop μ-loop
-shared-slice-read-step c = search needs
+shared-slice-read-step c = omega (arith, ended (c .before .before .before) .0, ended (c .before .before .before) .1)
 
-same-length-3 : tie.Need-same-length-3 Inv-loop μ-loop
-same-length-3 c = search needs
+same-length-2 : tie.Need-same-length-2 Inv-loop μ-loop
+same-length-2 c = search needs
 
-returns-3 : tie.Need-returns-3 Inv-loop μ-loop
-returns-3 c = search needs
+returns-2 : tie.Need-returns-2 Inv-loop μ-loop
+returns-2 c = search needs
 
 add-put-run : tie.Need-add-put-run Inv-loop μ-loop
-add-put-run c = search needs
+add-put-run c = record { fits = omega (arith, ended (c .before .before .before .before .before) .0, ended (c .before .before .before .before .before) .1) }
 
 mul-put-run : tie.Need-mul-put-run Inv-loop μ-loop
 mul-put-run c = search needs
@@ -100,11 +91,11 @@ part-put-run-end c = ended (c .before .before .before .before .before) .1
 put-run-requires : tie.Need-put-run-requires Inv-loop μ-loop
 put-run-requires c κs = search needs
 
-same-length-4 : tie.Need-same-length-4 Inv-loop μ-loop
-same-length-4 c = search needs
+same-length-3 : tie.Need-same-length-3 Inv-loop μ-loop
+same-length-3 c = search needs
 
-returns-4 : tie.Need-returns-4 Inv-loop μ-loop
-returns-4 c = search needs
+returns-3 : tie.Need-returns-3 Inv-loop μ-loop
+returns-3 c = search needs
 
 loop-less : tie.Need-loop-less Inv-loop μ-loop
 loop-less c =
@@ -114,11 +105,11 @@ loop-less c =
 loop-again : tie.Need-loop-again Inv-loop μ-loop
 loop-again c = search needs
 
-same-length-5 : tie.Need-same-length-5 Inv-loop μ-loop
-same-length-5 c = search needs
+same-length-4 : tie.Need-same-length-4 Inv-loop μ-loop
+same-length-4 c = search needs
 
-returns-5 : tie.Need-returns-5 Inv-loop μ-loop
-returns-5 c = search needs
+returns-4 : tie.Need-returns-4 Inv-loop μ-loop
+returns-4 c = search needs
 
 pub put-runs-spec : {M : Type 1} → statement M
 put-runs-spec =
@@ -127,15 +118,12 @@ put-runs-spec =
     Inv-loop
     μ-loop
     loop-holds
-    sub-if1
-    same-length
-    returns
     add-list-end
     list-end-requires
     enum-known-end
     enum-told
-    same-length-2
-    returns-2
+    same-length
+    returns
     mul-place
     shared-slice-read-place
     add-times
@@ -144,17 +132,17 @@ put-runs-spec =
     add-step
     mul-step
     shared-slice-read-step
-    same-length-3
-    returns-3
+    same-length-2
+    returns-2
     add-put-run
     mul-put-run
     sub-put-run
     part-put-run-start
     part-put-run-end
     put-run-requires
-    same-length-4
-    returns-4
+    same-length-3
+    returns-3
     loop-less
     loop-again
-    same-length-5
-    returns-5)
+    same-length-4
+    returns-4)
