@@ -165,10 +165,13 @@ def tighten(numbers, line):
 
 
 def read(numbers, line):
-    refused, parts = blockfiles.read(blockfiles.laid(numbers[2], numbers[3:]), numbers[:2], refusal)
+    file = blockfiles.laid(numbers[2], numbers[3:])
+    refused, parts = blockfiles.read(file, numbers[:2], refusal)
     if refused:
         return refused, None
     words, rules, limit = parts
+    if blockfiles.written(words, rules, limit) != file:
+        raise ValueError("a file that reads is not written back: " + line)
     return None, ["ok", len(words) // 3, len(rules) // 6, limit] + words + rules
 
 

@@ -36,6 +36,7 @@ fn put_run(file: &mut [u8], first: usize, times: usize, step: usize, bytes: &[u6
 // All runs of a line put, from its number `first` on: whether the line can be read so.
 pub fn put_runs(file: &mut [u8], numbers: &[u64], first: usize) -> bool
     requires { ⌜ length (now file) ≤ 4096 ⌝ }
+    ensures { λ _. ⌜ length (now (file .exit)) ≡ length (now (file .entry)) ⌝ }
 {
     let mut at = first;
     while at < numbers.len() {
