@@ -1,8 +1,15 @@
 -- The line of an answer. Assumes nothing: these are definitions.
+use mathlib.Core.Path.{_≡_}
 use mathlib.Core.Bool.{Bool, true, false}
 use mathlib.Core.List.{List, [], _∷_}
-use Prim.Native.Nat.{ℕ}
+use Prim.Native.Nat.{ℕ, _≤_}
+use lib.ListN.{length, drop}
 use Rattle.lines.specs.Putting.{LinePut}
+
+-- r bytes of an answer stand in front of m, and the rest is as it was in l
+pub record Answered (l m : List ℕ) (r : ℕ) : Type 0 where
+  pub within : r ≤ length m
+  pub rest : drop r m ≡ drop r l
 
 -- the word `altered`
 abbrev pub altered : List ℕ

@@ -2,10 +2,8 @@
 pub mod memory;
 
 use lines::Listed;
-ghost use Prim.Native.Nat.{_≤_};
-ghost use lib.ListN.{length};
 ghost use Rattle.benchtop.specs.Parts.{Parts};
-ghost use Rattle.benchtop.specs.Told.{Told};
+ghost use Rattle.benchtop.specs.Told.{Told, Answered};
 
 // The most numbers of words that a line may ask for.
 const WORDS: usize = 128;
@@ -44,7 +42,7 @@ pub fn problem_of(numbers: &[u64], own: usize, rules: &mut [u8]) -> Problem
 pub fn tell(out: &mut [u8], name: &[u8], fine: bool, word: &[u8], numbers: &[u64]) -> usize
     ensures { λ r. ⌜
         Told fine (now (name .entry)) (now (word .entry)) (now (numbers .entry)) (now (out .entry)) (now (out .exit)) r
-        × (r ≤ length (now (out .exit)))
+        × Answered (now (out .entry)) (now (out .exit)) r
         ⌝ }
 {
     if fine {

@@ -13,6 +13,7 @@ use blocks::Problem;
 use blocks::Reading;
 ghost use Prim.Native.Nat.{_+_, _≤_};
 ghost use lib.ListN.{length};
+ghost use Rattle.benchtop.specs.Told.{Answered};
 
 // Numbers a word, and bytes a rule.
 const STRIDE: usize = 3;
@@ -32,7 +33,7 @@ fn listed(out: &mut [u64], x: Problem, words: &[u64], rules: &[u8]) -> usize
 // The answer OK: what was read stands in front, and the rest is as it was.
 fn told(name: &[u8], x: Problem, words: &[u64], rules: &[u8], out: &mut [u8]) -> usize
     requires { ⌜ (length (now words) ≤ 128) × (length (now rules) ≤ 2048) ⌝ }
-    ensures { λ r. ⌜ r ≤ length (now (out .exit)) ⌝ }
+    ensures { λ r. ⌜ Answered (now (out .entry)) (now (out .exit)) r ⌝ }
 {
     let n = x.words;
     let m = x.rules;
@@ -53,7 +54,7 @@ fn told(name: &[u8], x: Problem, words: &[u64], rules: &[u8], out: &mut [u8]) ->
 // A file read into lent memory. After a refusal that is as it was.
 fn read_lent(name: &[u8], file: &[u8], words: &mut [u64], rules: &mut [u8], out: &mut [u8]) -> usize
     requires { ⌜ (length (now words) ≤ 128) × (length (now rules) ≤ 2048) ⌝ }
-    ensures { λ r. ⌜ r ≤ length (now (out .exit)) ⌝ }
+    ensures { λ r. ⌜ Answered (now (out .entry)) (now (out .exit)) r ⌝ }
 {
     let answer = reader::read(file, words, rules);
     let untouched = lines::all(words, DIRT) & lines::all_bytes(rules, DIRT_BYTE);
@@ -64,7 +65,7 @@ fn read_lent(name: &[u8], file: &[u8], words: &mut [u64], rules: &mut [u8], out:
 }
 
 pub fn read(name: &[u8], numbers: &[u64], out: &mut [u8]) -> usize
-    ensures { λ r. ⌜ r ≤ length (now (out .exit)) ⌝ }
+    ensures { λ r. ⌜ Answered (now (out .entry)) (now (out .exit)) r ⌝ }
 {
     if numbers.len() < 3 {
         return 0;

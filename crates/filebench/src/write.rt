@@ -7,12 +7,11 @@ use benchtop::memory::DIRT_BYTE;
 use benchtop::problem_of;
 use benchtop::tell;
 use blocks::Written;
-ghost use Prim.Native.Nat.{_≤_};
-ghost use lib.ListN.{length};
+ghost use Rattle.benchtop.specs.Told.{Answered};
 
 // The answer OK: the file's length, and its bytes that are not 0, each after its position. What was lent beyond is as it was.
 fn told(name: &[u8], file: &[u8], size: usize, out: &mut [u8]) -> usize
-    ensures { λ r. ⌜ r ≤ length (now (out .exit)) ⌝ }
+    ensures { λ r. ⌜ Answered (now (out .entry)) (now (out .exit)) r ⌝ }
 {
     if file.len() < size {
         return 0;
@@ -36,7 +35,7 @@ fn write_lent(
     file: &mut [u8],
     out: &mut [u8],
 ) -> usize
-    ensures { λ r. ⌜ r ≤ length (now (out .exit)) ⌝ }
+    ensures { λ r. ⌜ Answered (now (out .entry)) (now (out .exit)) r ⌝ }
 {
     let answer = writer::write(words, rules, limit, file);
     let untouched = lines::all_bytes(file, DIRT_BYTE);
@@ -47,7 +46,7 @@ fn write_lent(
 }
 
 pub fn write(name: &[u8], numbers: &[u64], out: &mut [u8]) -> usize
-    ensures { λ r. ⌜ r ≤ length (now (out .exit)) ⌝ }
+    ensures { λ r. ⌜ Answered (now (out .entry)) (now (out .exit)) r ⌝ }
 {
     let mut rules = memory::rules();
     let Problem::Is { end, count } = problem_of(numbers, 2, &mut rules) else {

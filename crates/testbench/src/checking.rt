@@ -3,11 +3,10 @@ use benchtop::Problem;
 use benchtop::memory;
 use benchtop::problem_of;
 use benchtop::tell;
-ghost use Prim.Native.Nat.{_≤_};
-ghost use lib.ListN.{length};
+ghost use Rattle.benchtop.specs.Told.{Answered};
 
 pub fn check(name: &[u8], numbers: &[u64], out: &mut [u8]) -> usize
-    ensures { λ r. ⌜ r ≤ length (now (out .exit)) ⌝ }
+    ensures { λ r. ⌜ Answered (now (out .entry)) (now (out .exit)) r ⌝ }
 {
     let mut rules = memory::rules();
     let Problem::Is { end, count } = problem_of(numbers, 1, &mut rules) else {

@@ -6,12 +6,11 @@ mod tightening;
 
 use benchtop::memory;
 use lines::Parsed;
-ghost use Prim.Native.Nat.{_≤_};
-ghost use lib.ListN.{length};
+ghost use Rattle.benchtop.specs.Told.{Answered};
 
-// The answer to a board's line, put at the start of `out`: how many bytes it has, 0 where the line cannot be read.
+// The answer to a board's line, put at the start of `out`: how many bytes it has, 0 where the line cannot be read. The rest stays as it was.
 pub fn answer(line: &[u8], out: &mut [u8]) -> usize
-    ensures { λ r. ⌜ r ≤ length (now (out .exit)) ⌝ }
+    ensures { λ r. ⌜ Answered (now (out .entry)) (now (out .exit)) r ⌝ }
 {
     let mut numbers = memory::numbers();
     let mut kept = memory::numbers();

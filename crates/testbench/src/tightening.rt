@@ -4,8 +4,7 @@ use benchtop::memory;
 use benchtop::problem_of;
 use benchtop::tell;
 use tighten::Answer;
-ghost use Prim.Native.Nat.{_≤_};
-ghost use lib.ListN.{length};
+ghost use Rattle.benchtop.specs.Told.{Answered};
 
 // The most numbers of work memory that a line may ask for.
 const WORK: usize = 512;
@@ -19,7 +18,7 @@ fn tighten_lent(
     work: &mut [u64],
     out: &mut [u8],
 ) -> usize
-    ensures { λ r. ⌜ r ≤ length (now (out .exit)) ⌝ }
+    ensures { λ r. ⌜ Answered (now (out .entry)) (now (out .exit)) r ⌝ }
 {
     let answer = tighten::tighten(words, rules, work);
     let same = lines::same(words, kept);
@@ -39,7 +38,7 @@ fn tighten_lent(
 }
 
 pub fn tighten(name: &[u8], numbers: &mut [u64], kept: &[u64], out: &mut [u8]) -> usize
-    ensures { λ r. ⌜ r ≤ length (now (out .exit)) ⌝ }
+    ensures { λ r. ⌜ Answered (now (out .entry)) (now (out .exit)) r ⌝ }
 {
     let mut rules = memory::rules();
     let Problem::Is { end, count } = problem_of(kept, 1, &mut rules) else {

@@ -1,5 +1,6 @@
 -- `benchtop::tell` meets its contract. Assumes nothing.
 use borrow.Author.Needs.{needs}
+use Rattle.benchtop.proofs.Answers.{put-answered}
 use Rattle.benchtop.proofs.tell.Statement.{statement}
 use Rattle.benchtop.proofs.tell.Tie as tie
 
@@ -12,7 +13,7 @@ same-length c = search needs
 returns : tie.Need-returns
 returns c =
     let w = c .before .before in
-    rw (w .before .before .if1 .taken) (w .put-line .ensures, w .put-line .ensures .within)
+    rw (w .before .before .if1 .taken) (w .put-line .ensures, put-answered (w .put-line .ensures))
 
 slice-aggregate-put-line : tie.Need-slice-aggregate-put-line
 slice-aggregate-put-line c = search needs
@@ -29,7 +30,7 @@ same-length-2 c = search needs
 returns-2 : tie.Need-returns-2
 returns-2 c =
     let w = c .before .before in
-    rw (w .before .before .before .before .if1 .left) (w .put-line2 .ensures, w .put-line2 .ensures .within)
+    rw (w .before .before .before .before .if1 .left) (w .put-line2 .ensures, put-answered (w .put-line2 .ensures))
 
 pub tell-spec : {M : Type 1} → statement M
 tell-spec =

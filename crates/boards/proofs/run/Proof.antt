@@ -45,7 +45,7 @@ array-share-prefix-out : tie.Need-array-share-prefix-out
 array-share-prefix-out c = search needs
 
 slice-aggregate-write-all-3 : tie.Need-slice-aggregate-write-all-3
-slice-aggregate-write-all-3 c = sym (length-take-le _ _ (c .before .before .before .answer .ensures))
+slice-aggregate-write-all-3 c = sym (length-take-le _ _ (c .before .before .before .answer .ensures .within))
 
 write-all-requires-4 : tie.Need-write-all-requires-4
 write-all-requires-4 c κs = search needs
