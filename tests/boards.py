@@ -1,11 +1,13 @@
 #!/usr/bin/env python3
 """The boards that the program `boards` runs, answered anew from the product's paper and compared with what the program must print.
 
-Reads crates/boards/stdin, computes each answer by going through every fit, and compares with crates/boards/stdout line by line.
+Reads crates/boards/stdin, computes each answer anew, tightening by going through every fit, and compares with crates/boards/stdout line by line.
 It shares no code and no table with the crates.
 """
 import itertools
 import sys
+
+import blockfiles
 
 STDIN = "crates/boards/stdin"
 STDOUT = "crates/boards/stdout"
@@ -141,24 +143,56 @@ def tightened(words, rules):
             return words
 
 
+def problem(numbers, line):
+    """The words and rules of a line, each after their count, and nothing behind them."""
+    size = numbers[0]
+    words, rules = numbers[1 : 1 + size], numbers[2 + size :]
+    if len(words) != size or len(rules) != numbers[1 + size]:
+        raise ValueError("a board's counts do not fit its numbers: " + line)
+    return words, rules
+
+
+def check(numbers, line):
+    words, rules = problem(numbers[1:], line)
+    return refusal(words, rules, numbers[0]), ["ok"]
+
+
+def tighten(numbers, line):
+    words, rules = problem(numbers[1:], line)
+    refused = (1, 0) if numbers[0] < 320 else refusal(words, rules, 0)
+    left = None if refused else tightened(words, rules)
+    return refused, ["conflict"] if left is None else ["tight"] + left
+
+
+def read(numbers, line):
+    file = blockfiles.laid(numbers[2], numbers[3:])
+    refused, parts = blockfiles.read(file, numbers[:2], refusal)
+    if refused:
+        return refused, None
+    words, rules, limit = parts
+    if blockfiles.written(words, rules, limit) != file:
+        raise ValueError("a file that reads is not written back: " + line)
+    return None, ["ok", len(words) // 3, len(rules) // 6, limit] + words + rules
+
+
+def write(numbers, line):
+    words, rules = problem(numbers[2:], line)
+    refused, file = blockfiles.write(words, rules, numbers[1], numbers[0], refusal)
+    if refused:
+        return refused, None
+    return None, ["ok", len(file)] + [x for pair in enumerate(file) if pair[1] for x in pair]
+
+
+CALLS = {"check": check, "tighten": tighten, "read": read, "write": write}
+
+
 def answer(line):
     """The line that the program must print for a board."""
-    items = line.split()
-    name, call, first, size = items[0], items[1], int(items[2]), int(items[3])
-    words = [int(x) for x in items[4 : 4 + size]]
-    rules = [int(x) for x in items[5 + size :]]
-    if len(words) != size or len(rules) != int(items[4 + size]):
-        raise ValueError("a board's counts do not fit its numbers: " + line)
-    if call == "check":
-        refused = refusal(words, rules, first)
-        return f"{name} ok" if refused is None else f"{name} refused {refused[0]} {refused[1]}"
-    if call == "tighten":
-        refused = (1, 0) if first < 320 else refusal(words, rules, 0)
-        if refused is not None:
-            return f"{name} refused {refused[0]} {refused[1]}"
-        left = tightened(words, rules)
-        return f"{name} conflict" if left is None else " ".join([name, "tight"] + [str(x) for x in left])
-    raise ValueError("no such call: " + call)
+    name, call, *numbers = line.split()
+    refused, told = CALLS[call]([int(x) for x in numbers], line)
+    if refused:
+        told = ["refused", *refused]
+    return " ".join([name] + [str(x) for x in told])
 
 
 def main():

@@ -1,18 +1,21 @@
--- `testbench::calls::tighten` meets its contract. Assumes nothing.
+-- `testbench::tightening::tighten` meets its contract. Assumes nothing.
 use mathlib.Core.Path.{subst, sym}
 use native.Mathlib.Omega.{arith}
 use borrow.Author.Needs.{needs}
 use lib.Seq.{length-take-le}
-use lib.ListN.{getD, length-take, length-drop}
+use lib.ListN.{getD}
 use denote.Ref.{now}
-use Rattle.testbench.specs.declared.Problem.{Problem}
-use Rattle.testbench.specs.Parts.{Parts, PartsAt}
-use Rattle.testbench.proofs.calls.tighten.Statement.{statement}
-use Rattle.testbench.proofs.calls.tighten.Tie as tie
+use Rattle.benchtop.specs.Parts.{Parts}
+use Rattle.benchtop.proofs.Problems.{PartsAt, parts-at}
+use Rattle.testbench.proofs.tightening.tighten.Statement.{statement}
+use Rattle.testbench.proofs.tightening.tighten.Tie as tie
 
 -- the parts that the problem has
-parts : (c : tie.After-known-told) → PartsAt (now (c .before .before .before .before .before .before .before .before .before .before .before .args .kept)) 1 (c .before .before .before .before .problem-of .last .1 .1 .0) (c .before .end .given .0 .0) (c .before .end .given .0 .1 .0)
-parts c = subst (λ (x : Problem). Parts (now (c .before .before .before .before .before .before .before .before .before .before .before .args .kept)) 1 (c .before .before .before .before .problem-of .last .1 .1 .0) x) (c .before .end .given .1) (c .before .before .before .before .problem-of .ensures)
+parts : (c : tie.After-known-told)
+    → let p = c .before .before .before .before in
+    let s = p .before .before .before .before .before .before .before in
+    PartsAt (now (s .args .kept)) 1 (p .problem-of .last .1 .1 .0) (c .before .end .given .0 .0) (c .before .end .given .0 .1 .0)
+parts c = parts-at _ _ _ _ _ _ (subst (Parts _ _ _ _) (c .before .end .given .1) (c .before .before .before .before .problem-of .ensures))
 
 rules-requires : tie.Need-rules-requires
 rules-requires c κs = search needs
@@ -74,12 +77,11 @@ array-borrow-prefix-work c = search needs
 slice-aggregate-tighten-lent-2 : tie.Need-slice-aggregate-tighten-lent-2
 slice-aggregate-tighten-lent-2 c =
     let w = c .before .before .before .before in
-    sym (length-take-le (getD (now (w .before .before .before .before .before .before .before .before .before .before .before .before .before .before .before .args .kept)) 0 0) (w .work .result) (omega (arith, w .work .ensures, w .before .if2 .left)))
+    let s = w .before .before .before .before .before .before .before .before .before .before .before .before .before .before .before in
+    sym (length-take-le (getD (now (s .args .kept)) 0 0) (w .work .result) (omega (arith, w .work .ensures, w .before .if2 .left)))
 
 tighten-lent-requires : tie.Need-tighten-lent-requires
-tighten-lent-requires c κs =
-    let k = c .before .before .before .before .before .before .before .before .before in
-    (k .before .before .before .before .before .before .before .before .before .before .before .pre, simp (length-take, length-drop) (omega (arith, parts k .most)))
+tighten-lent-requires c κs = search needs
 
 same-length : tie.Need-same-length
 same-length c = search needs

@@ -1,17 +1,20 @@
--- `testbench::calls::check` meets its contract. Assumes nothing.
+-- `testbench::checking::check` meets its contract. Assumes nothing.
 use mathlib.Core.Path.{subst, sym}
 use native.Mathlib.Omega.{arith}
 use borrow.Author.Needs.{needs}
 use lib.Seq.{length-take-le}
 use denote.Ref.{now}
-use Rattle.testbench.specs.declared.Problem.{Problem}
-use Rattle.testbench.specs.Parts.{Parts, PartsAt}
-use Rattle.testbench.proofs.calls.check.Statement.{statement}
-use Rattle.testbench.proofs.calls.check.Tie as tie
+use Rattle.benchtop.specs.Parts.{Parts}
+use Rattle.benchtop.proofs.Problems.{PartsAt, parts-at}
+use Rattle.testbench.proofs.checking.check.Statement.{statement}
+use Rattle.testbench.proofs.checking.check.Tie as tie
 
 -- the parts that the problem has
-parts : (c : tie.After-known-told) → PartsAt (now (c .before .before .before .before .before .before .before .before .before .before .args .numbers)) 1 (c .before .before .before .before .problem-of .last .1 .1 .0) (c .before .end .given .0 .0) (c .before .end .given .0 .1 .0)
-parts c = subst (λ (x : Problem). Parts (now (c .before .before .before .before .before .before .before .before .before .before .args .numbers)) 1 (c .before .before .before .before .problem-of .last .1 .1 .0) x) (c .before .end .given .1) (c .before .before .before .before .problem-of .ensures)
+parts : (c : tie.After-known-told)
+    → let p = c .before .before .before .before in
+    let s = p .before .before .before .before .before .before in
+    PartsAt (now (s .args .numbers)) 1 (p .problem-of .last .1 .1 .0) (c .before .end .given .0 .0) (c .before .end .given .0 .1 .0)
+parts c = parts-at _ _ _ _ _ _ (subst (Parts _ _ _ _) (c .before .end .given .1) (c .before .before .before .before .problem-of .ensures))
 
 rules-requires : tie.Need-rules-requires
 rules-requires c κs = search needs
