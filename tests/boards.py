@@ -183,7 +183,103 @@ def write(numbers, line):
     return None, ["ok", len(file)] + [x for pair in enumerate(file) if pair[1] for x in pair]
 
 
-CALLS = {"check": check, "tighten": tighten, "read": read, "write": write}
+def search(words, rules, limit, used=0):
+    """The published search of a table: its answer, its count, and the settings found."""
+    tight = tightened(words, rules)
+    if tight is None:
+        return "none", used, None
+    open_words = [i for i in range(len(tight) // 3) if tight[3 * i + 1] != tight[3 * i + 2]]
+    if not open_words:
+        return "found", used, tight[1::3]
+    if used == limit:
+        return "gaveup", limit, None
+    word = open_words[0]
+    top = 1 << ((tight[3 * word + 1] ^ tight[3 * word + 2]).bit_length() - 1)
+    zero, one = list(tight), list(tight)
+    zero[3 * word + 2] -= top
+    one[3 * word + 1] += top
+    answer = search(zero, rules, limit, used + 1)
+    return answer if answer[0] != "none" else search(one, rules, limit, answer[1])
+
+
+def solve(numbers, line):
+    limit, model, work = numbers[:3]
+    words, rules = problem(numbers[3:], line)
+    refused = (1, 0) if work < 4608 or model < len(words) // 3 else refusal(words, rules, limit)
+    if refused:
+        return refused, None
+    answer, count, values = search(words, rules, limit)
+    return None, [answer, count] + ([len(values)] + values if answer == "found" else [])
+
+
+def says(words, rule, place, bit, opened):
+    """What a rule says of a bit, with some bits treated as open at their places."""
+    kind, named, k = rule[0], dict(zip("rabs", rule[1:5])), rule[5]
+    places = [p for p in USES[kind] if p != "k"]
+    widths = {p: words[3 * named[p]] for p in places}
+    bounds = {}
+    for p in places:
+        drop = sum(1 << j for q, j in opened if q == p)
+        bounds[p] = (words[3 * named[p] + 1] & ~drop, words[3 * named[p] + 2] | drop)
+    seen = set()
+    for values in itertools.product(*(between(*bounds[p]) for p in places)):
+        v = dict(zip(places, values))
+        if holds(kind, v, widths, k):
+            seen.add(v[place] >> bit & 1)
+    return "conflict" if not seen else "free" if len(seen) == 2 else "forced %d" % seen.pop()
+
+
+def explain(numbers, line):
+    rule, place, bit, room = numbers[:4]
+    words, rules = problem(numbers[4:], line)
+    refused = (1, 0) if room < 193 else refusal(words, rules, 0)
+    if refused:
+        return refused, None
+    if rule >= len(rules) // 6 or place > 3:
+        return (10, 0), None
+    asked, named = rules[6 * rule : 6 * rule + 6], "rabs"[place]
+    word = asked[1 + place]
+    if named not in USES[asked[0]] or bit >= words[3 * word] or not (words[3 * word + 1] ^ words[3 * word + 2]) >> bit & 1:
+        return (10, 0), None
+    answer, opened, reason = says(words, asked, named, bit, []), [], []
+    if answer == "free":
+        return None, ["free"]
+    for number, p in enumerate("rabs"):
+        if p not in USES[asked[0]]:
+            continue
+        at = 3 * asked[1 + number]
+        for j in range(words[at]):
+            if (words[at + 1] ^ words[at + 2]) >> j & 1:
+                continue
+            if says(words, asked, named, bit, opened + [(p, j)]) == answer:
+                opened.append((p, j))
+            else:
+                reason.append(64 * number + j)
+    return None, [answer if answer != "conflict" else "conflict 0", len(reason)] + reason
+
+
+def cause(numbers, line):
+    limit, room, work = numbers[:3]
+    words, rules = problem(numbers[3:], line)
+    refused = (1, 0) if work < 5120 or room < len(rules) // 6 else refusal(words, rules, limit)
+    if refused:
+        return refused, None
+    answer, total, _ = search(words, rules, limit)
+    if answer != "none":
+        return None, ["exists" if answer == "found" else answer, total]
+    kept = list(range(len(rules) // 6))
+    for n in reversed(range(len(rules) // 6)):
+        rest = [j for j in kept if j != n]
+        answer, count, _ = search(words, [x for j in rest for x in rules[6 * j : 6 * j + 6]], limit)
+        total += count
+        if answer == "gaveup":
+            return None, [answer, total]
+        if answer == "none":
+            kept = rest
+    return None, ["cause", total, len(kept)] + kept
+
+
+CALLS = {"check": check, "tighten": tighten, "read": read, "write": write, "solve": solve, "explain": explain, "cause": cause}
 
 
 def answer(line):

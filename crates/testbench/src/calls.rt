@@ -3,7 +3,7 @@ use crate::checking::check;
 use crate::tightening::tighten;
 ghost use Rattle.benchtop.specs.Told.{Answered};
 
-// The call that a word names; one that is not of this crate is looked for among those on block files.
+// The call that a word names; one that is not here is looked for among those on block files.
 pub fn call(name: &[u8], word: &[u8], numbers: &mut [u64], kept: &[u64], out: &mut [u8]) -> usize
     ensures { λ r. ⌜ Answered (now (out .entry)) (now (out .exit)) r ⌝ }
 {
@@ -12,6 +12,15 @@ pub fn call(name: &[u8], word: &[u8], numbers: &mut [u64], kept: &[u64], out: &m
     }
     if check::same(word, b"tighten") {
         return tighten(name, numbers, kept, out);
+    }
+    if check::same(word, b"solve") {
+        return solvebench::solve(name, kept, out);
+    }
+    if check::same(word, b"explain") {
+        return solvebench::explain(name, kept, out);
+    }
+    if check::same(word, b"cause") {
+        return solvebench::cause(name, kept, out);
     }
     filebench::call(name, word, kept, out)
 }
