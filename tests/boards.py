@@ -1,11 +1,13 @@
 #!/usr/bin/env python3
 """The boards that the program `boards` runs, answered anew from the product's paper and compared with what the program must print.
 
-Reads crates/boards/stdin, computes each answer by going through every fit, and compares with crates/boards/stdout line by line.
+Reads crates/boards/stdin, computes each answer anew, tightening by going through every fit, and compares with crates/boards/stdout line by line.
 It shares no code and no table with the crates.
 """
 import itertools
 import sys
+
+import blockfiles
 
 STDIN = "crates/boards/stdin"
 STDOUT = "crates/boards/stdout"
@@ -141,24 +143,152 @@ def tightened(words, rules):
             return words
 
 
+def problem(numbers, line):
+    """The words and rules of a line, each after their count, and nothing behind them."""
+    size = numbers[0]
+    words, rules = numbers[1 : 1 + size], numbers[2 + size :]
+    if len(words) != size or len(rules) != numbers[1 + size]:
+        raise ValueError("a board's counts do not fit its numbers: " + line)
+    return words, rules
+
+
+def check(numbers, line):
+    words, rules = problem(numbers[1:], line)
+    return refusal(words, rules, numbers[0]), ["ok"]
+
+
+def tighten(numbers, line):
+    words, rules = problem(numbers[1:], line)
+    refused = (1, 0) if numbers[0] < 320 else refusal(words, rules, 0)
+    left = None if refused else tightened(words, rules)
+    return refused, ["conflict"] if left is None else ["tight"] + left
+
+
+def read(numbers, line):
+    file = blockfiles.laid(numbers[2], numbers[3:])
+    refused, parts = blockfiles.read(file, numbers[:2], refusal)
+    if refused:
+        return refused, None
+    words, rules, limit = parts
+    if blockfiles.written(words, rules, limit) != file:
+        raise ValueError("a file that reads is not written back: " + line)
+    return None, ["ok", len(words) // 3, len(rules) // 6, limit] + words + rules
+
+
+def write(numbers, line):
+    words, rules = problem(numbers[2:], line)
+    refused, file = blockfiles.write(words, rules, numbers[1], numbers[0], refusal)
+    if refused:
+        return refused, None
+    return None, ["ok", len(file)] + [x for pair in enumerate(file) if pair[1] for x in pair]
+
+
+def search(words, rules, limit, used=0):
+    """The published search of a table: its answer, its count, and the settings found."""
+    tight = tightened(words, rules)
+    if tight is None:
+        return "none", used, None
+    open_words = [i for i in range(len(tight) // 3) if tight[3 * i + 1] != tight[3 * i + 2]]
+    if not open_words:
+        return "found", used, tight[1::3]
+    if used == limit:
+        return "gaveup", limit, None
+    word = open_words[0]
+    top = 1 << ((tight[3 * word + 1] ^ tight[3 * word + 2]).bit_length() - 1)
+    zero, one = list(tight), list(tight)
+    zero[3 * word + 2] -= top
+    one[3 * word + 1] += top
+    answer = search(zero, rules, limit, used + 1)
+    return answer if answer[0] != "none" else search(one, rules, limit, answer[1])
+
+
+def solve(numbers, line):
+    limit, model, work = numbers[:3]
+    words, rules = problem(numbers[3:], line)
+    refused = (1, 0) if work < 4608 or model < len(words) // 3 else refusal(words, rules, limit)
+    if refused:
+        return refused, None
+    answer, count, values = search(words, rules, limit)
+    return None, [answer, count] + ([len(values)] + values if answer == "found" else [])
+
+
+def says(words, rule, place, bit, opened):
+    """What a rule says of a bit, with some bits treated as open at their places."""
+    kind, named, k = rule[0], dict(zip("rabs", rule[1:5])), rule[5]
+    places = [p for p in USES[kind] if p != "k"]
+    widths = {p: words[3 * named[p]] for p in places}
+    bounds = {}
+    for p in places:
+        drop = sum(1 << j for q, j in opened if q == p)
+        bounds[p] = (words[3 * named[p] + 1] & ~drop, words[3 * named[p] + 2] | drop)
+    seen = set()
+    for values in itertools.product(*(between(*bounds[p]) for p in places)):
+        v = dict(zip(places, values))
+        if holds(kind, v, widths, k):
+            seen.add(v[place] >> bit & 1)
+    return "conflict" if not seen else "free" if len(seen) == 2 else "forced %d" % seen.pop()
+
+
+def explain(numbers, line):
+    rule, place, bit, room = numbers[:4]
+    words, rules = problem(numbers[4:], line)
+    refused = (1, 0) if room < 193 else refusal(words, rules, 0)
+    if refused:
+        return refused, None
+    if rule >= len(rules) // 6 or place > 3:
+        return (10, 0), None
+    asked, named = rules[6 * rule : 6 * rule + 6], "rabs"[place]
+    word = asked[1 + place]
+    if named not in USES[asked[0]] or bit >= words[3 * word] or not (words[3 * word + 1] ^ words[3 * word + 2]) >> bit & 1:
+        return (10, 0), None
+    answer, opened, reason = says(words, asked, named, bit, []), [], []
+    if answer == "free":
+        return None, ["free"]
+    for number, p in enumerate("rabs"):
+        if p not in USES[asked[0]]:
+            continue
+        at = 3 * asked[1 + number]
+        for j in range(words[at]):
+            if (words[at + 1] ^ words[at + 2]) >> j & 1:
+                continue
+            if says(words, asked, named, bit, opened + [(p, j)]) == answer:
+                opened.append((p, j))
+            else:
+                reason.append(64 * number + j)
+    return None, [answer if answer != "conflict" else "conflict 0", len(reason)] + reason
+
+
+def cause(numbers, line):
+    limit, room, work = numbers[:3]
+    words, rules = problem(numbers[3:], line)
+    refused = (1, 0) if work < 5120 or room < len(rules) // 6 else refusal(words, rules, limit)
+    if refused:
+        return refused, None
+    answer, total, _ = search(words, rules, limit)
+    if answer != "none":
+        return None, ["exists" if answer == "found" else answer, total]
+    kept = list(range(len(rules) // 6))
+    for n in reversed(range(len(rules) // 6)):
+        rest = [j for j in kept if j != n]
+        answer, count, _ = search(words, [x for j in rest for x in rules[6 * j : 6 * j + 6]], limit)
+        total += count
+        if answer == "gaveup":
+            return None, [answer, total]
+        if answer == "none":
+            kept = rest
+    return None, ["cause", total, len(kept)] + kept
+
+
+CALLS = {"check": check, "tighten": tighten, "read": read, "write": write, "solve": solve, "explain": explain, "cause": cause}
+
+
 def answer(line):
     """The line that the program must print for a board."""
-    items = line.split()
-    name, call, first, size = items[0], items[1], int(items[2]), int(items[3])
-    words = [int(x) for x in items[4 : 4 + size]]
-    rules = [int(x) for x in items[5 + size :]]
-    if len(words) != size or len(rules) != int(items[4 + size]):
-        raise ValueError("a board's counts do not fit its numbers: " + line)
-    if call == "check":
-        refused = refusal(words, rules, first)
-        return f"{name} ok" if refused is None else f"{name} refused {refused[0]} {refused[1]}"
-    if call == "tighten":
-        refused = (1, 0) if first < 320 else refusal(words, rules, 0)
-        if refused is not None:
-            return f"{name} refused {refused[0]} {refused[1]}"
-        left = tightened(words, rules)
-        return f"{name} conflict" if left is None else " ".join([name, "tight"] + [str(x) for x in left])
-    raise ValueError("no such call: " + call)
+    name, call, *numbers = line.split()
+    refused, told = CALLS[call]([int(x) for x in numbers], line)
+    if refused:
+        told = ["refused", *refused]
+    return " ".join([name] + [str(x) for x in told])
 
 
 def main():

@@ -9,6 +9,9 @@ use Rattle.search.proofs.Solved.{solved}
 use Rattle.search.proofs.TheCeiling.{some-ceiling}
 use Rattle.reasons.proofs.Explained.{explained}
 use Rattle.causes.proofs.Named.{named}
+use Rattle.blocks.specs.Bytes.{le, zeros, flat, total}
+use Rattle.blocks.specs.Block.{sum}
+use Rattle.blocks.specs.Written.{seal, blocksFor, headed, block, blocksOf, fileOf, encode}
 use Rattle.boards.specs.Row.{Follows}
 use Rattle.boards.specs.Boards.{boards}
 use Rattle.boards.proofs.Sound.{legalb}
@@ -20,7 +23,7 @@ boards-sound = tt
 
 -- the answers computed are those of the table
 boards-computed : computedAll boards boards-sound ≡ boards
-unfolding computed solved tightened some-ceiling explained named kindOf
+unfolding computed solved tightened some-ceiling explained named kindOf encode fileOf blocksOf blocksFor flat block headed seal sum total le zeros
 boards-computed = refl
 
 pub boards-follow : All Follows boards

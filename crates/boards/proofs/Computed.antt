@@ -1,5 +1,6 @@
 -- The answer of a row, computed from the definitions; a row with its computed answer follows from them.
 -- Assumes nothing.
+use mathlib.Core.Path.{refl}
 use mathlib.Core.Bool.{Bool, true, _&&_}
 use mathlib.Core.List.{List, [], _∷_}
 use Prim.Native.Nat.{ℕ}
@@ -20,7 +21,7 @@ use Rattle.search.proofs.Solved.{solved, solved-right}
 use Rattle.search.proofs.TheCeiling.{some-ceiling}
 use Rattle.reasons.proofs.Explained.{explained, explained-right}
 use Rattle.causes.proofs.Named.{named, named-right}
-use Rattle.boards.specs.Row.{Problem, table, Row, solve, ceiling, explain, cause, Follows}
+use Rattle.boards.specs.Row.{Problem, table, bytesOf, Row, solve, ceiling, explain, cause, file, Follows}
 use Rattle.boards.proofs.Sound.{properb, proper-sound, legalb, legal-sound}
 
 -- the row's problem is proper, and its question about a legal rule
@@ -30,6 +31,7 @@ soundb (ceiling p c) = properb (p .widths) (p .lo) (p .hi)
 soundb (explain p n q j x out) =
     properb (p .widths) (p .lo) (p .hi) && (legalb (p .widths) (rule (p .rules) n) && uses (kindOf (rule (p .rules) n .kind)) q)
 soundb (cause p limit x) = properb (p .widths) (p .lo) (p .hi)
+soundb (file p limit f) = properb (p .widths) (p .lo) (p .hi)
 
 pub proper : (p : Problem) → T (properb (p .widths) (p .lo) (p .hi)) → Proper (p .widths) (table p)
 proper p t = proper-sound (p .widths) (p .lo) (p .hi) t
@@ -46,6 +48,7 @@ computed (explain p n q j x out) t =
     let e = explained (shape (p .widths) (rule (p .rules) n)) (span (table p) (rule (p .rules) n)) q j in
     explain p n q j (e .0) (e .1)
 computed (cause p limit x) t = cause p limit (named (λ rs. solved (p .widths) rs limit (table p)) (p .rules) limit)
+computed (file p limit f) t = file p limit (bytesOf p limit)
 
 row-follows : (r : Row) (s : T (soundb r)) → Follows (computed r s)
 unfolding computed
@@ -64,6 +67,7 @@ row-follows (explain p n q j x out) s =
 row-follows (cause p limit x) t =
     named-right (λ rs. solved (p .widths) rs limit (table p)) (p .rules) limit (p .widths) (table p)
     (λ rs. solved-right (p .widths) rs (table p) (proper p t) limit)
+row-follows (file p limit f) t = refl
 
 -- all rows of a table
 abbrev pub allSound : List Row → Bool

@@ -7,7 +7,8 @@ use Rattle.rules.specs.Tight.{Rule}
 use Rattle.search.specs.Search.{found, none, gave-up}
 use Rattle.reasons.specs.Says.{FORCED}
 use Rattle.causes.specs.Cause.{CAUSE}
-use Rattle.boards.specs.Row.{Problem, Row, solve, ceiling, explain, cause}
+use Rattle.blocks.specs.Bytes.{zeros}
+use Rattle.boards.specs.Row.{Problem, Row, solve, ceiling, explain, cause, file}
 
 abbrev problem : List ℕ → List ℕ → List ℕ → List Rule → Problem
 problem w lo hi rs = record { widths = w; lo = lo; hi = hi; rules = rs }
@@ -85,6 +86,7 @@ boardK = problem (1 ∷ 1 ∷ 1 ∷ []) (0 ∷ 0 ∷ 1 ∷ []) (0 ∷ 1 ∷ 1 �
 abbrev pub boards : List Row
 boards =
     solve boardA 0 (found [] 0)
+    ∷ file boardA 0 (3 ∷ 1 ∷ 0 ∷ 0 ∷ 0 ∷ 0 ∷ 252 ∷ 254 ∷ zeros 504)
     ∷ solve boardB 0 gave-up
     ∷ solve boardB 1 (found (0 ∷ []) 1)
     ∷ solve boardC 1000000 (found (0 ∷ 15 ∷ 1 ∷ []) 0)

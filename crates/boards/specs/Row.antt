@@ -1,8 +1,10 @@
 -- A row of the table of boards, and what it says.
 -- Assumes nothing: these are definitions.
-use mathlib.Core.List.{List}
+use mathlib.Core.Path.{_≡_}
+use mathlib.Core.List.{List, [], _∷_}
 use Prim.Native.Nat.{ℕ}
-use Rattle.words.specs.Table.{Table}
+use lib.ListN.{drop}
+use Rattle.words.specs.Table.{Table, at}
 use Rattle.rules.specs.Kinds.{Place}
 use Rattle.rules.specs.Tight.{Rule, rule, shape, span, Tight}
 use Rattle.rules.specs.Tightening.{Widest}
@@ -11,6 +13,8 @@ use Rattle.search.specs.Ceiling.{Ceiling}
 use Rattle.reasons.specs.Says.{Answer}
 use Rattle.reasons.specs.Reason.{Explains}
 use Rattle.causes.specs.Cause.{Cause, Causes}
+use Rattle.blocks.specs.Edition.{edition1}
+use Rattle.blocks.specs.Written.{encode}
 
 pub record Problem : Type 0 where
   pub widths : List ℕ
@@ -21,6 +25,19 @@ pub record Problem : Type 0 where
 abbrev pub table : Problem → Table
 table p = record { lo = p .lo; hi = p .hi }
 
+-- the numbers of words, three a word, and the bytes of rules, six a rule, as they are lent to a call
+abbrev pub lentWords : List ℕ → List ℕ → List ℕ → List ℕ
+lentWords [] lo hi = []
+lentWords (w ∷ ws) lo hi = w ∷ at lo 0 ∷ at hi 0 ∷ lentWords ws (drop 1 lo) (drop 1 hi)
+
+abbrev pub lentRules : List Rule → List ℕ
+lentRules [] = []
+lentRules (ρ ∷ rs) = ρ .kind ∷ ρ .r ∷ ρ .a ∷ ρ .b ∷ ρ .s ∷ ρ .k ∷ lentRules rs
+
+-- the bytes of a problem's file
+abbrev pub bytesOf : Problem → ℕ → List ℕ
+bytesOf p limit = encode edition1 limit (lentWords (p .widths) (p .lo) (p .hi)) (lentRules (p .rules))
+
 pub data Row : Type 0 where
   -- solved with a limit: the answer with its count and settings
   solve : Problem → ℕ → Outcome → Row
@@ -30,6 +47,8 @@ pub data Row : Type 0 where
   explain : Problem → ℕ → Place → ℕ → Answer → List ℕ → Row
   -- the cause asked with a limit
   cause : Problem → ℕ → Cause → Row
+  -- the file of the problem with a limit, byte by byte
+  file : Problem → ℕ → List ℕ → Row
 
 -- what a row says, in the words of the definitions
 abbrev pub Follows : Row → Type 0
@@ -37,3 +56,4 @@ Follows (solve p limit o) = Search (Tight (p .widths) (p .rules)) limit (table p
 Follows (ceiling p c) = (u : Table) → Widest (Tight (p .widths) (p .rules)) (table p) u → Ceiling (p .rules) (table p) u c
 Follows (explain p n q j x out) = Explains (shape (p .widths) (rule (p .rules) n)) (span (table p) (rule (p .rules) n)) q j x out
 Follows (cause p limit x) = Causes (p .widths) (p .rules) limit (table p) x
+Follows (file p limit f) = f ≡ bytesOf p limit

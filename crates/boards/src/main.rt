@@ -2,6 +2,8 @@
 // Lines that are empty or begin with `#` are passed over.
 use libc::STDIN_FILENO;
 use libc::STDOUT_FILENO;
+ghost use mathlib.Core.Path.{_≡_};
+ghost use lib.ListN.{length};
 
 // A board's line run; one that cannot be read is written as it is.
 fn run(line: &[u8]) {
@@ -11,7 +13,7 @@ fn run(line: &[u8]) {
     if line[0] == b'#' {
         return;
     }
-    let mut out = io::buffer();
+    let mut out = io::large_buffer();
     let n = testbench::answer(line, &mut out);
     if n == 0 {
         io::write_all(STDOUT_FILENO, b"unread: ");
@@ -31,8 +33,15 @@ fn run_all(text: &[u8]) {
     }
 }
 
+// Room for the text of all boards.
+fn buffer() -> [u8; 262144]
+    ensures { λ r. ⌜ 262144 ≡ length r ⌝ }
+{
+    [0; 262144]
+}
+
 fn main() {
-    let mut text = io::large_buffer();
+    let mut text = buffer();
     let n = io::read_full(STDIN_FILENO, &mut text);
     if n == text.len() {
         io::write_all(STDOUT_FILENO, b"the text is too long\n");

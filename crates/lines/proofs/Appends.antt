@@ -1,33 +1,55 @@
 -- Text appended piece by piece, and the numbers of a list piece by piece. Assumes nothing.
 use mathlib.Core.Path.{_≡_, refl, sym, ap, _∙_}
 use mathlib.Core.List.{List, [], _∷_, _++_, append-assoc, append-nil}
-use Prim.Native.Nat.{ℕ, _+_, _<_}
+use Prim.Native.Nat.{ℕ, _+_, _<_, _≤_}
+use native.Mathlib.Nat.{add-zero}
 use native.Mathlib.Numerals.{add-one}
 use native.Mathlib.Omega.{arith}
-use lib.ListN.{length, take, drop, set, getD, length-append}
-use lib.Seq.{take-suc, take-suc-set, drop-set-lt, drop-drop}
-use Rattle.lines.specs.Text.{decimal, items, spaced}
-use Rattle.lines.specs.Putting.{Appended}
+use lib.ListN.{length, take, drop, set, getD, length-append, length-take, length-drop, take-append-drop}
+use lib.Seq.{take-suc, set-split, take-at, drop-at, drop-drop, length-take-le}
+use Rattle.lines.specs.Text.{decimal, spaced}
+use Rattle.lines.specs.Putting.{put, Appended}
 
-pub appended-none : (l : List ℕ) (at : ℕ) → Appended l at [] l at
-appended-none l at = record { ends = omega arith; text = sym (append-nil (take at l)); rest = refl }
+pub length-put : (l : List ℕ) (a : ℕ) (xs : List ℕ) → a + length xs ≤ length l → length (put l a xs) ≡ length l
+length-put l a xs h = simp (length-append, length-take, length-drop) (omega arith)
+
+-- a list put behind a list
+put-put : (l : List ℕ) (a e : ℕ) (xs ys : List ℕ) → a + length xs ≡ e → e + length ys ≤ length l → put (put l a xs) e ys ≡ put l a (xs ++ ys)
+put-put l a e xs ys q h =
+    let head = take a l ++ xs in
+    let n : length head ≡ e = length-append (take a l) xs ∙ rw (length-take-le a l (omega arith)) q in
+    let p : put l a xs ≡ head ++ drop e l = sym (append-assoc (take a l) xs (drop (a + length xs) l)) ∙ ap (λ k. head ++ drop k l) q in
+    let t : take e (put l a xs) ≡ head = ap (take e) p ∙ take-at head (drop e l) e n in
+    let d : drop (e + length ys) (put l a xs) ≡ drop (e + length ys) l =
+    sym (drop-drop (length ys) e (put l a xs)) ∙ ap (drop (length ys)) (ap (drop e) p ∙ drop-at head (drop e l) e n) ∙ drop-drop (length ys) e l in
+    let k : a + length (xs ++ ys) ≡ e + length ys = ap (λ k. a + k) (length-append xs ys) ∙ omega arith in
+    ap (λ z. z ++ (ys ++ drop (e + length ys) (put l a xs))) t
+    ∙ ap (λ z. head ++ (ys ++ z)) (d ∙ ap (λ k. drop k l) (sym k))
+    ∙ append-assoc (take a l) xs (ys ++ drop (a + length (xs ++ ys)) l)
+    ∙ ap (λ z. take a l ++ z) (sym (append-assoc xs ys (drop (a + length (xs ++ ys)) l)))
+
+-- what is appended leaves the length as it was
+pub appended-length : {l xs m : List ℕ} {at e : ℕ} → Appended l at xs m e → length m ≡ length l
+appended-length {l} {xs} {m} {at} {e} f = ap length (f .text) ∙ length-put l at xs (omega (arith, f .ends, f .room))
+
+pub appended-none : (l : List ℕ) (at : ℕ) → at ≤ length l → Appended l at [] l at
+appended-none l at h = record { ends = omega arith; room = h; text = sym (rw add-zero (take-append-drop at l)) }
 
 pub appended-byte : (l : List ℕ) (at x : ℕ) → at < length l → Appended l at (x ∷ []) (set l at x) (at + 1)
-appended-byte l at x h = record { ends = refl; text = rw (add-one at) (take-suc-set l at x h); rest = drop-set-lt (at + 1) l at x (omega arith) }
+appended-byte l at x h = record { ends = refl; room = omega arith; text = rw add-one (set-split l at x h) }
 
 pub appended-both : {l xs m ys n : List ℕ} {at e r : ℕ} → Appended l at xs m e → Appended m e ys n r → Appended l at (xs ++ ys) n r
 appended-both {l} {xs} {m} {ys} {n} {at} {e} {r} f g =
-    let k = length ys in
-    let behind : drop (e + k) m ≡ drop (e + k) l = sym (drop-drop k e m) ∙ ap (drop k) (f .rest) ∙ drop-drop k e l in
+    let long = appended-length f in
     record {
       ends = omega (arith, f .ends, g .ends, length-append xs ys);
-      text = g .text ∙ rw (f .text, append-assoc);
-      rest = g .rest ∙ rw (g .ends) behind;
+      room = omega (arith, g .room, long);
+      text = g .text ∙ ap (λ (t : List ℕ). put t e ys) (f .text) ∙ put-put l at e xs ys (sym (f .ends)) (omega (arith, g .ends, g .room, long));
     }
 
 -- one more number
 pub spaced-more : (ns : List ℕ) (n : ℕ) → spaced (ns ++ (n ∷ [])) ≡ spaced ns ++ (32 ∷ decimal n)
-unfolding spaced items
+unfolding spaced
 spaced-more [] n = append-nil (32 ∷ decimal n)
 spaced-more (m ∷ ns) n = rw (spaced-more ns n) (sym (append-assoc (32 ∷ decimal m) (spaced ns) (32 ∷ decimal n)))
 

@@ -10,11 +10,11 @@ use lib.Dec.{ltb}
 use lib.ListN.{length, length-append}
 use Rattle.lines.specs.Text.{digits, decimal}
 
-digits-one : (k n : ℕ) → n < 10 → digits (suc k) n ≡ (48 + n) ∷ []
+pub digits-one : (k n : ℕ) → n < 10 → digits (suc k) n ≡ (48 + n) ∷ []
 unfolding digits
 digits-one k n h = rw (lt-ltb n 10 h)
 
-digits-more : (k n : ℕ) → 10 ≤ n → digits (suc k) n ≡ digits k (n / 10) ++ ((48 + n % 10) ∷ [])
+pub digits-more : (k n : ℕ) → 10 ≤ n → digits (suc k) n ≡ digits k (n / 10) ++ ((48 + n % 10) ∷ [])
 unfolding digits
 digits-more k n h = rw (le-ltb n 10 h)
 

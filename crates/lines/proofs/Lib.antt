@@ -1,5 +1,10 @@
 pub mod Decimals
+pub mod Values
+pub mod Apart
 pub mod Appends
 pub mod Puts
 pub mod Readings
 pub mod Lists
+pub mod Blanks
+pub mod Parsing
+pub mod Once

@@ -1,6 +1,6 @@
 -- The text of numbers and of lines, as bytes. Assumes nothing: these are definitions.
 use mathlib.Core.Bool.{cond}
-use mathlib.Core.List.{List, [], _∷_, _++_, map}
+use mathlib.Core.List.{List, [], _∷_, _++_}
 use Prim.Native.Nat.{ℕ, zero, suc, _+_, _/_, _%_}
 use lib.Dec.{ltb}
 
@@ -13,19 +13,11 @@ digits (suc k) n = cond (ltb n 10) ((48 + n) ∷ []) (digits k (n / 10) ++ ((48 
 unfoldable pub decimal : ℕ → List ℕ
 decimal n = digits 20 n
 
--- each item after a blank
-unfoldable pub items : List (List ℕ) → List ℕ
-items [] = []
-items (x ∷ xs) = (32 ∷ x) ++ items xs
-
 -- each number after a blank
 unfoldable pub spaced : List ℕ → List ℕ
-spaced ns = items (map decimal ns)
+spaced [] = []
+spaced (n ∷ ns) = (32 ∷ decimal n) ++ spaced ns
 
 -- a name, a word and numbers, parted by one blank each
 unfoldable pub lineOf : List ℕ → List ℕ → List ℕ → List ℕ
 lineOf name word ns = name ++ ((32 ∷ word) ++ spaced ns)
-
--- a line: its first item, each other one after a blank, and its end
-unfoldable pub line : List ℕ → List (List ℕ) → List ℕ
-line x xs = x ++ (items xs ++ (10 ∷ []))

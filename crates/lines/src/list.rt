@@ -1,7 +1,10 @@
 // Lists of numbers: one that begins with its count, one as bytes, two compared.
 use crate::Listed;
 ghost use mathlib.Core.Path.{_≡_};
-ghost use Rattle.lines.specs.Lists.{Ends, Narrowed, Tells, All};
+ghost use Prim.Native.Nat.{_≤_};
+ghost use lib.ListN.{length};
+ghost use Rattle.lines.specs.Putting.{put};
+ghost use Rattle.lines.specs.Lists.{Ends, Bytes, Narrowed, Tells, All};
 
 // Where the list ends whose count stands at `at`.
 pub fn list_end(numbers: &[u64], at: usize) -> Listed
@@ -18,23 +21,44 @@ pub fn list_end(numbers: &[u64], at: usize) -> Listed
     Listed::Before(first + count)
 }
 
-// Numbers put at the start of `out` as bytes: whether each is one, and there is room.
+// Whether each number is a byte.
+fn are_bytes(numbers: &[u64]) -> bool
+    ensures { λ r. ⌜ Tells (Bytes (now (numbers .entry))) r ⌝ }
+{
+    let mut i = 0;
+    while i < numbers.len() {
+        if 255 < numbers[i] {
+            return false;
+        }
+        i += 1;
+    }
+    true
+}
+
+// Bytes put at the start of `out`.
+fn store(numbers: &[u64], out: &mut [u8])
+    requires { ⌜ Bytes (now numbers) × (length (now numbers) ≤ length (now out)) ⌝ }
+    ensures { λ _. ⌜ now (out .exit) ≡ put (now (out .entry)) 0 (now (numbers .entry)) ⌝ }
+{
+    let mut i = 0;
+    while i < numbers.len() {
+        out[i] = numbers[i] as u8;
+        i += 1;
+    }
+}
+
+// Numbers put at the start of `out` as bytes: whether each is one, and there is room. Where not, nothing is put.
 pub fn narrow(numbers: &[u64], out: &mut [u8]) -> bool
-    ensures { λ r. ⌜ Narrowed (now (numbers .entry)) (now (out .exit)) r ⌝ }
+    ensures { λ r. ⌜ Narrowed (now (numbers .entry)) (now (out .entry)) (now (out .exit)) r ⌝ }
 {
     if out.len() < numbers.len() {
         return false;
     }
-    let mut i = 0;
-    while i < numbers.len() {
-        let x = numbers[i];
-        if 255 < x {
-            return false;
-        }
-        out[i] = x as u8;
-        i += 1;
+    if are_bytes(numbers) {
+        store(numbers, out);
+        return true;
     }
-    true
+    false
 }
 
 // Whether two lists are equal.
@@ -56,6 +80,20 @@ pub fn same(a: &[u64], b: &[u64]) -> bool
 
 // Whether each number of a list is x.
 pub fn all(a: &[u64], x: u64) -> bool
+    ensures { λ r. ⌜ Tells (All (now (a .entry)) x) r ⌝ }
+{
+    let mut i = 0;
+    while i < a.len() {
+        if a[i] != x {
+            return false;
+        }
+        i += 1;
+    }
+    true
+}
+
+// Whether each byte of a list is x.
+pub fn all_bytes(a: &[u8], x: u8) -> bool
     ensures { λ r. ⌜ Tells (All (now (a .entry)) x) r ⌝ }
 {
     let mut i = 0;

@@ -1,10 +1,9 @@
 // Decimal numbers below 2^64, with as few digits as hold them, read and put.
 use crate::BLANK;
 ghost use mathlib.Core.Path.{_≡_};
-ghost use mathlib.Core.Bool.{_&&_};
-ghost use Prim.Native.Nat.{_+_, _*_, _≤_, _<_};
-ghost use lib.Dec.{leb};
-ghost use lib.ListN.{length};
+ghost use Prim.Native.Nat.{_+_, _*_, _≤_};
+ghost use lib.ListN.{length, drop};
+ghost use Rattle.lines.specs.Digits.{digitOf, Stops};
 ghost use Rattle.lines.specs.Text.{decimal, spaced};
 ghost use Rattle.lines.specs.Reading.{IsNumber, AreNumbers};
 ghost use Rattle.lines.specs.Putting.{Appended};
@@ -23,7 +22,7 @@ pub enum Numbers {
 
 // What a byte stands for as a digit, 10 where it is none.
 fn digit(x: u8) -> u64
-    ensures { λ r. ⌜ (r < 10 → x ≡ 48 + r) × (r ≤ 10) ⌝ }
+    ensures { λ r. ⌜ r ≡ digitOf x ⌝ }
 {
     if x < 48 {
         return 10;
@@ -65,8 +64,8 @@ fn read(s: &[u8], at: usize) -> Number
 
 // The numbers from `at` to the end, each after a blank.
 pub fn read_all(s: &[u8], at: usize, out: &mut [u64]) -> Numbers
-    requires { ⌜ at ≤ length (now s) ⌝ }
-    ensures { λ r. ⌜ AreNumbers (now (s .entry)) at r (now (out .exit)) ⌝ }
+    requires { ⌜ (at ≤ length (now s)) × Stops (drop at (now s)) ⌝ }
+    ensures { λ r. ⌜ AreNumbers (now (s .entry)) at r (now (out .entry)) (now (out .exit)) ⌝ }
 {
     let mut n = 0;
     let mut e = at;

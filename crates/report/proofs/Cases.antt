@@ -2,9 +2,9 @@
 use mathlib.Core.Path.{_≡_, refl}
 use mathlib.Core.List.{[], _∷_}
 use Rattle.words.specs.Bits.{bit}
-use Rattle.lines.specs.Text.{digits, decimal, items, line}
+use Rattle.lines.specs.Text.{digits, decimal}
 use Rattle.blocks.specs.Bytes.{flat}
-use Rattle.report.specs.Text.{binary, wordLines, causeLine, textOf, sat, unsat, named}
+use Rattle.report.specs.Text.{items, line, binary, wordLines, causeLine, textOf, sat, unsat, named}
 
 -- sat 2 / 0 2 10 / 1 2 01 / 2 2 11
 pub case-G : textOf (sat 2 (2 ∷ 2 ∷ 2 ∷ []) (2 ∷ 1 ∷ 3 ∷ []))

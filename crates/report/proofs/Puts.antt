@@ -1,25 +1,31 @@
 -- Lines put one after the other into lent bytes. Assumes nothing.
-use mathlib.Core.Path.{_≡_, sym, ap, _∙_, subst}
+use mathlib.Core.Path.{_≡_, refl, sym, ap, _∙_, subst}
 use mathlib.Core.List.{List, [], _∷_, _++_, map, append-assoc, append-nil}
 use Prim.Native.Nat.{ℕ, _+_, _≤_, _<_}
 use native.Mathlib.Nat.{zero-add}
 use native.Mathlib.Numerals.{add-one}
 use native.Mathlib.Omega.{arith}
-use lib.ListN.{length, take, set, getD, take-append-drop}
-use Rattle.lines.specs.Text.{decimal, items, spaced, line}
+use lib.ListN.{length, take, drop, set, getD}
+use Rattle.lines.specs.Text.{decimal, spaced}
 use Rattle.lines.specs.Putting.{Appended}
 use Rattle.lines.proofs.Appends.{appended-none, appended-both}
 use Rattle.lines.proofs.Puts.{number-turn}
 use Rattle.blocks.specs.Bytes.{flat}
 use Rattle.blocks.proofs.Pieces.{flat-none, flat-more}
-use Rattle.report.specs.Text.{Report, textOf, binary, wordLine}
+use Rattle.report.specs.Text.{items, line, Report, textOf, binary, wordLine}
 use Rattle.report.specs.Printed.{Printed}
+
+-- numbers after blanks are items
+pub spaced-items : (ns : List ℕ) → spaced ns ≡ items (map decimal ns)
+unfolding spaced items
+spaced-items [] = refl
+spaced-items (n ∷ ns) = rw (spaced-items ns)
 
 -- a name, numbers and the end of the line
 pub line-put : {l p q m : List ℕ} {at a e r : ℕ} (name ns : List ℕ) → Appended l at name p a → Appended p a (spaced ns) q e → Appended q e (10 ∷ []) m r
     → Appended l at (line name (map decimal ns)) m r
-unfolding line spaced
-line-put name ns f g h = appended-both f (appended-both g h)
+unfolding line
+line-put name ns f g h = rw (spaced-items ns) at (appended-both f (appended-both g h))
 
 -- one more entry of a list
 pub entry-turn : {l m n : List ℕ} {at e r : ℕ} (ns : List ℕ) (i x : ℕ) → Appended l at (spaced (take i ns)) m e → e < length m
@@ -31,7 +37,7 @@ pub entries-end : {l m : List ℕ} {at e : ℕ} (ns : List ℕ) (i n : ℕ) → 
 entries-end {l} {m} {at} {e} ns i n f p q = let z : i ≡ n = omega arith in subst (λ k. Appended l at (spaced (take k ns)) m e) z f
 
 pub spaced-one : (n : ℕ) → length (spaced (n ∷ [])) ≡ length (decimal n) + 1
-unfolding spaced items
+unfolding spaced
 spaced-one n = rw (append-nil (decimal n)) (omega arith)
 
 -- number, width, value
@@ -45,8 +51,8 @@ word-put i w v f g h k n = rw (word-line i w v) at (appended-both f (appended-bo
 
 -- ---- pieces one after the other
 
-pub pieces-start : (l : List ℕ) (at : ℕ) (f : ℕ → List ℕ) → Appended l at (flat 0 f) l at
-pieces-start l at f = rw (flat-none f) (appended-none l at)
+pub pieces-start : (l : List ℕ) (at : ℕ) (f : ℕ → List ℕ) → at ≤ length l → Appended l at (flat 0 f) l at
+pieces-start l at f h = rw (flat-none f) (appended-none l at h)
 
 pub pieces-turn : {l m n : List ℕ} {at e r : ℕ} (i : ℕ) (f : ℕ → List ℕ) → Appended l at (flat i f) m e → Appended m e (f i) n r
     → Appended l at (flat (i + 1) f) n r
@@ -58,6 +64,6 @@ pieces-end {l} {m} {at} {e} i n f g p q = let z : i ≡ n = omega arith in subst
 -- ---- the whole report
 
 pub printed : {l m : List ℕ} {e : ℕ} (x : Report) → Appended l 0 (textOf x) m e → Printed x l m e
-printed {l} {m} {e} x f =
-    let end : e ≡ length (textOf x) = f .ends ∙ zero-add (length (textOf x)) in
-    record { ends = end; text = sym (take-append-drop e m) ∙ rw (f .text, f .rest, end) }
+printed {l} x f =
+    let none = zero-add (length (textOf x)) in
+    record { ends = f .ends ∙ none; text = f .text ∙ ap (λ k. textOf x ++ drop k l) none }

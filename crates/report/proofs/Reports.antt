@@ -1,19 +1,19 @@
 -- The lines of each report, put one after the other, are the report. Assumes nothing.
 use mathlib.Core.Path.{_≡_, sym, ap, _∙_}
-use mathlib.Core.List.{List, [], _∷_, _++_, map, append-assoc}
+use mathlib.Core.List.{List, [], _∷_, _++_, map, append-assoc, append-nil}
 use Prim.Native.Nat.{ℕ, _≤_}
 use Rattle.words.specs.Table.{at}
 use Rattle.checker.specs.Lent.{wordCount, widthAt, widthsOf}
 use Rattle.checker.proofs.Series.{length-series, series-at}
-use Rattle.lines.specs.Text.{decimal, items, spaced, line}
+use Rattle.lines.specs.Text.{decimal, spaced}
 use Rattle.lines.specs.Putting.{Appended}
 use Rattle.lines.proofs.Appends.{appended-both}
 use Rattle.blocks.specs.Bytes.{flat}
 use Rattle.blocks.proofs.Pieces.{flat-same}
-use Rattle.report.specs.Text.{SAT, UNSAT, UNKNOWN, CAUSE, REFUSED, wordLine, causeLine, wordLines, textOf}
+use Rattle.report.specs.Text.{items, line, SAT, UNSAT, UNKNOWN, CAUSE, REFUSED, wordLine, causeLine, wordLines, textOf}
 use Rattle.report.specs.Text.{Cause, named, unnamed, sat, unsat, unknown, refused}
 use Rattle.report.specs.Printed.{Printed}
-use Rattle.report.proofs.Puts.{pieces-end, printed}
+use Rattle.report.proofs.Puts.{spaced-items, pieces-end, printed}
 
 -- ---- the lines of words
 
@@ -34,9 +34,13 @@ words-end ws values i f p q = rw (lent-lines ws values) at (pieces-end i (wordCo
 
 -- ---- the line of a cause
 
+items-more : (x : List ℕ) (xs : List (List ℕ)) → items (x ∷ []) ++ (items xs ++ (10 ∷ [])) ≡ items (x ∷ xs) ++ (10 ∷ [])
+unfolding items
+items-more x xs = ap (λ t. 32 ∷ t) (rw (append-nil x) (sym (append-assoc x (items xs) (10 ∷ []))))
+
 cause-line : (sum : ℕ) (rules : List ℕ) → CAUSE ++ (spaced (sum ∷ []) ++ (spaced rules ++ (10 ∷ []))) ≡ causeLine (named sum rules)
-unfolding causeLine line items spaced
-cause-line sum rules = simp append-assoc
+unfolding causeLine line
+cause-line sum rules = rw (spaced-items (sum ∷ []), spaced-items rules) (ap (λ t. CAUSE ++ t) (items-more (decimal sum) (map decimal rules)))
 
 pub cause-put : {l p q s m : List ℕ} {at a b e r : ℕ} (sum : ℕ) (rules : List ℕ) → Appended l at CAUSE p a → Appended p a (spaced (sum ∷ [])) q b
     → Appended q b (spaced rules) s e → Appended s e (10 ∷ []) m r → Appended l at (causeLine (named sum rules)) m r

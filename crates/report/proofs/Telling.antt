@@ -16,9 +16,9 @@ use Rattle.solve.specs.declared.Solved.the-variants as solved
 use Rattle.solve.specs.Promise.{Comes, Solving}
 use Rattle.solve.specs.Promise as Solve
 use Rattle.solve.proofs.Calling.{nothing-refused}
-use Rattle.lines.specs.Text.{decimal, line}
+use Rattle.lines.specs.Text.{decimal}
 use Rattle.blocks.proofs.Pieces.{flat-same}
-use Rattle.report.specs.Text.{SAT, wordLine, wordLines, Report, sat, unknown, textOf}
+use Rattle.report.specs.Text.{line, SAT, wordLine, wordLines, Report, sat, unknown, textOf}
 use Rattle.report.specs.Printed.{Printed, Valued}
 use Rattle.report.specs.Promise.{found-first, gave-up-at, Asked, Told, told}
 

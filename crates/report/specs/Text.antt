@@ -1,12 +1,21 @@
 -- What the adviser program prints, as bytes: the lines of each answer. Items on a line are parted by one blank, numbers are decimal, and each
--- line ends with byte 10; `decimal` and `line` say so. Assumes nothing: these are definitions.
+-- line ends with byte 10. Assumes nothing: these are definitions.
 use mathlib.Core.List.{List, [], _∷_, _++_, map}
 use Prim.Native.Nat.{ℕ, zero, suc, _+_}
 use lib.ListN.{length}
 use Rattle.words.specs.Bits.{bit}
 use Rattle.words.specs.Table.{at}
-use Rattle.lines.specs.Text.{decimal, line}
+use Rattle.lines.specs.Text.{decimal}
 use Rattle.blocks.specs.Bytes.{flat}
+
+-- each item after a blank
+unfoldable pub items : List (List ℕ) → List ℕ
+items [] = []
+items (x ∷ xs) = (32 ∷ x) ++ items xs
+
+-- a line: its first item, each other one after a blank, and byte 10
+unfoldable pub line : List ℕ → List (List ℕ) → List ℕ
+line x xs = x ++ (items xs ++ (10 ∷ []))
 
 -- the words with which a line begins: sat, unsat, unknown, cause, refused
 abbrev pub SAT : List ℕ

@@ -3,9 +3,9 @@ ghost use mathlib.Core.Path.{_≡_};
 ghost use mathlib.Core.List.{map};
 ghost use Prim.Native.Nat.{_+_, _*_, _≤_, _<_};
 ghost use lib.ListN.{length, take};
-ghost use Rattle.lines.specs.Text.{decimal, spaced, line};
+ghost use Rattle.lines.specs.Text.{decimal, spaced};
 ghost use Rattle.lines.specs.Putting.{Appended};
-ghost use Rattle.report.specs.Text.{binary, wordLine};
+ghost use Rattle.report.specs.Text.{line, binary, wordLine};
 
 // The value in binary with exactly `width` digits, the highest bit first: where they end.
 pub fn put_binary(out: &mut [u8], at: usize, width: usize, value: u64) -> usize

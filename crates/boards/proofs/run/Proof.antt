@@ -14,8 +14,8 @@ shared-slice-read-if2 c = search needs
 returns-2 : tie.Need-returns-2
 returns-2 c = search needs
 
-buffer-requires : tie.Need-buffer-requires
-buffer-requires c κs = search needs
+large-buffer-requires : tie.Need-large-buffer-requires
+large-buffer-requires c κs = search needs
 
 slice-aggregate-answer : tie.Need-slice-aggregate-answer
 slice-aggregate-answer c = search needs
@@ -45,7 +45,7 @@ array-share-prefix-out : tie.Need-array-share-prefix-out
 array-share-prefix-out c = search needs
 
 slice-aggregate-write-all-3 : tie.Need-slice-aggregate-write-all-3
-slice-aggregate-write-all-3 c = sym (length-take-le _ _ (c .before .before .before .answer .ensures))
+slice-aggregate-write-all-3 c = sym (length-take-le _ _ (c .before .before .before .answer .ensures .within))
 
 write-all-requires-4 : tie.Need-write-all-requires-4
 write-all-requires-4 c κs = search needs
@@ -60,7 +60,7 @@ run-spec =
     returns
     shared-slice-read-if2
     returns-2
-    buffer-requires
+    large-buffer-requires
     slice-aggregate-answer
     answer-requires
     slice-aggregate-write-all

@@ -2,18 +2,21 @@
 use mathlib.Core.Path.{subst, sym}
 use Prim.Native.Nat.{_≤_}
 use native.Mathlib.Omega.{arith}
-use borrow.Author.Needs.{needs}
-use lib.ListN.{length, length-take}
+use lib.ListN.{length}
 use lib.Seq.{length-take-le}
 use denote.Ref.{now}
-use Rattle.lines.specs.declared.Parsed.{Parsed}
 use Rattle.lines.specs.Reading.{Parses, LineAt}
+use borrow.Author.Needs.{needs}
 use Rattle.testbench.proofs.answer.Statement.{statement}
 use Rattle.testbench.proofs.answer.Tie as tie
 
 -- the line as it was read
-line-read : (c : tie.After-known-told) → LineAt (now (c .before .before .before .before .before .before .before .before .before .before .before .args .line)) (c .before .name .given .0 .0) (c .before .name .given .0 .1 .0) (c .before .name .given .0 .1 .1 .0) (c .before .before .before .before .parse .last .1 .0)
-line-read c = subst (λ (x : Parsed). Parses (now (c .before .before .before .before .before .before .before .before .before .before .before .args .line)) x (c .before .before .before .before .parse .last .1 .0)) (c .before .name .given .1) (c .before .before .before .before .parse .ensures)
+line-read : (c : tie.After-known-told)
+    → let p = c .before .before .before .before in
+    let s = p .before .before .before .before .before .before in
+    let g = c .before .name .given .0 in
+    LineAt (now (s .args .line)) (g .0) (g .1 .0) (g .1 .1 .0) (p .before .before .before .numbers .result) (p .parse .last .1 .0)
+line-read c = subst (Parses _ _ _) (c .before .name .given .1) (c .before .before .before .before .parse .ensures)
 
 -- the second reading has the room of the first
 room : (c : tie.After-parse2) → c .before .before .before .name .given .0 .1 .1 .0 ≤ length (c .parse2 .last .1 .0)
@@ -23,11 +26,10 @@ room c =
     let n = p .before .before in
     omega (arith, line-read k .within, p .parse .kept .1 .0, c .parse2 .kept .1 .0, n .numbers2 .ensures, n .before .numbers .ensures)
 
-short : (c : tie.After-known-told) → c .before .name .given .0 .0 ≤ length (now (c .before .before .before .before .before .before .before .before .before .before .before .args .line))
+short : (c : tie.After-known-told)
+    → let s = c .before .before .before .before .before .before .before .before .before .before in
+    c .before .name .given .0 .0 ≤ length (now (s .args .line))
 short c = omega (arith, line-read c .name, line-read c .word)
-
-returns : tie.Need-returns
-returns c = search needs
 
 numbers-requires : tie.Need-numbers-requires
 numbers-requires c κs = search needs
@@ -47,8 +49,8 @@ enum-known-name c = search needs
 enum-told : tie.Need-enum-told
 enum-told c = search needs
 
-returns-2 : tie.Need-returns-2
-returns-2 c = search needs
+returns : tie.Need-returns
+returns c = search needs
 
 slice-aggregate-parse-2 : tie.Need-slice-aggregate-parse-2
 slice-aggregate-parse-2 c = search needs
@@ -56,62 +58,57 @@ slice-aggregate-parse-2 c = search needs
 parse-requires-2 : tie.Need-parse-requires-2
 parse-requires-2 c κs = search needs
 
-returns-3 : tie.Need-returns-3
-returns-3 c = search needs
-
 slice-aggregate-call : tie.Need-slice-aggregate-call
-slice-aggregate-call c = sym (length-take-le _ _ (short (c .before .before .before .before .before)))
+slice-aggregate-call c = sym (length-take-le _ _ (short (c .before .before .before .before)))
 
 add-call : tie.Need-add-call
-add-call c = search needs
+add-call c =
+    let k = c .before .before .before .before in
+    record { fits = omega (arith, short k, line-read k .name, line-read k .word) }
 
 sub-call : tie.Need-sub-call
-sub-call c = omega (arith, line-read (c .before .before .before .before .before) .name)
+sub-call c = omega (arith, line-read (c .before .before .before .before) .name)
 
 part-call-start : tie.Need-part-call-start
-part-call-start c = omega (arith, line-read (c .before .before .before .before .before) .name)
+part-call-start c = omega (arith, line-read (c .before .before .before .before) .name)
 
 part-call-end : tie.Need-part-call-end
-part-call-end c = line-read (c .before .before .before .before .before) .word
+part-call-end c = line-read (c .before .before .before .before) .word
 
 array-borrow-prefix-numbers : tie.Need-array-borrow-prefix-numbers
-array-borrow-prefix-numbers c = line-read (c .before .before .before .before .before .before) .within
+array-borrow-prefix-numbers c = line-read (c .before .before .before .before .before) .within
 
 slice-aggregate-call-2 : tie.Need-slice-aggregate-call-2
-slice-aggregate-call-2 c = sym (length-take-le _ _ (line-read (c .before .before .before .before .before .before .before) .within))
+slice-aggregate-call-2 c = sym (length-take-le _ _ (line-read (c .before .before .before .before .before .before) .within))
 
 array-share-prefix-kept : tie.Need-array-share-prefix-kept
-array-share-prefix-kept c = room (c .before .before .before .before .before)
+array-share-prefix-kept c = room (c .before .before .before .before)
 
 slice-aggregate-call-3 : tie.Need-slice-aggregate-call-3
-slice-aggregate-call-3 c = sym (length-take-le _ _ (room (c .before .before .before .before .before .before)))
+slice-aggregate-call-3 c = sym (length-take-le _ _ (room (c .before .before .before .before .before)))
 
 call-requires : tie.Need-call-requires
-call-requires c κs =
-    let k = c .before .before .before .before .before .before .before .before .before in
-    record { short = simp length-take (omega (arith, c .before .before .before .before .before .if2 .left)); room = k .before .before .before .before .before .before .before .before .if1 .left }
+call-requires c κs = search needs
 
 same-length : tie.Need-same-length
 same-length c = search needs
 
-returns-4 : tie.Need-returns-4
-returns-4 c = search needs
+returns-2 : tie.Need-returns-2
+returns-2 c = search needs
 
 pub answer-spec : {M : Type 1} → statement M
 answer-spec =
     tie.close
     (tie.spec
-    returns
     numbers-requires
     numbers-requires-2
     slice-aggregate-parse
     parse-requires
     enum-known-name
     enum-told
-    returns-2
+    returns
     slice-aggregate-parse-2
     parse-requires-2
-    returns-3
     slice-aggregate-call
     add-call
     sub-call
@@ -123,4 +120,4 @@ answer-spec =
     slice-aggregate-call-3
     call-requires
     same-length
-    returns-4)
+    returns-2)

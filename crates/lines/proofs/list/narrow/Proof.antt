@@ -1,78 +1,33 @@
 -- `lines::list::narrow` meets its contract. Assumes nothing.
-use mathlib.Core.Logic.{inl, inr}
-use mathlib.Core.Path.{_≡_}
-use Prim.Native.Nat.{_-_, _≤_}
+use mathlib.Core.Path.{refl}
+use mathlib.Core.Bool.{true, false}
 use native.Mathlib.Omega.{arith}
+use Rattle.lines.proofs.Lists.{told-no}
 use borrow.Author.Needs.{needs}
-use lib.ListN.{length, take, length-set}
-use Rattle.lines.proofs.Lists.{taken-more, taken-all}
 use Rattle.lines.proofs.list.narrow.Statement.{statement}
 use Rattle.lines.proofs.list.narrow.Tie as tie
 
-abbrev Inv-loop : tie.InvT-loop
-Inv-loop numbers out₀ i₀ out i = (take i out ≡ take i numbers) × (length out ≡ length out₀) × (i ≤ length numbers)
+returns : tie.Need-returns
+returns c = ((λ p. omega (arith, p .0)), refl)
 
-abbrev μ-loop : tie.MeasureT-loop
-μ-loop numbers out₀ i₀ out i = length numbers - i
+are-bytes-requires : tie.Need-are-bytes-requires
+are-bytes-requires c κs = search needs
 
-returns : tie.Need-returns Inv-loop μ-loop
-returns c = inl (omega arith)
+store-requires : tie.Need-store-requires
+store-requires c κs = (c .before .before .are-bytes .ensures .0 (c .before .if2 .taken), omega arith)
 
-loop-holds : tie.Need-loop-holds Inv-loop μ-loop
-loop-holds c = search needs
-
-mul-x : tie.Need-mul-x Inv-loop μ-loop
-mul-x c = search needs
-
-shared-slice-read-x : tie.Need-shared-slice-read-x Inv-loop μ-loop
-shared-slice-read-x c = search needs
-
-same-length : tie.Need-same-length Inv-loop μ-loop
+same-length : tie.Need-same-length
 same-length c = search needs
 
-returns-2 : tie.Need-returns-2 Inv-loop μ-loop
-returns-2 c = inr (c .before .before .before .loop .i, omega arith, omega arith)
+returns-2 : tie.Need-returns-2
+returns-2 c =
+    let w = c .before .before in
+    let t = w .before .before in
+    (omega arith, t .before .are-bytes .ensures .0 (t .if2 .taken), w .store .ensures)
 
-cast-out : tie.Need-cast-out Inv-loop μ-loop
-cast-out c = search needs
-
-slice-write-out : tie.Need-slice-write-out Inv-loop μ-loop
-slice-write-out c = search needs
-
-add-i : tie.Need-add-i Inv-loop μ-loop
-add-i c = search needs
-
-loop-less : tie.Need-loop-less Inv-loop μ-loop
-loop-less c = search needs
-
-loop-again : tie.Need-loop-again Inv-loop μ-loop
-loop-again c =
-    let l = c .before .before .before in
-    let s = l .before .before in
-    (taken-more _ (s .args .numbers .now) (l .loop .i) (l .loop .inv .0) (omega arith) (omega arith), simp length-set (omega arith), omega arith)
-
-same-length-2 : tie.Need-same-length-2 Inv-loop μ-loop
-same-length-2 c = search needs
-
-returns-3 : tie.Need-returns-3 Inv-loop μ-loop
-returns-3 c = taken-all _ _ (c .before .loop .i) (c .before .loop .inv .0) (omega arith)
+returns-3 : tie.Need-returns-3
+returns-3 c = ((λ p. told-no (c .before .are-bytes .ensures) (c .if2 .left) (p .1)), refl)
 
 pub narrow-spec : {M : Type 1} → statement M
 narrow-spec =
-    tie.close
-    (tie.spec
-    Inv-loop
-    μ-loop
-    returns
-    loop-holds
-    mul-x
-    shared-slice-read-x
-    same-length
-    returns-2
-    cast-out
-    slice-write-out
-    add-i
-    loop-less
-    loop-again
-    same-length-2
-    returns-3)
+    tie.close (tie.spec returns are-bytes-requires store-requires same-length returns-2 returns-3)

@@ -24,7 +24,8 @@ abbrev put-below : ℕ → In 1 put-kinds.ps
 put-below t = and 1 put-kinds.ps (falls 1 put-kinds.ps _<_ μ-put t) put.Pre
 
 -- the byte behind the digits of the tenth is there
-room : (t : ℕ) (c : put-lts.After-slice-known2 (put-below t, put.Post) (put-at t) put.Post) → c .before .before .put .result < length (c .before .before .put .last .0)
+room : (t : ℕ) (c : put-lts.After-slice-known2 (put-below t, put.Post) (put-at t) put.Post)
+    → c .before .before .put .result < length (c .before .before .put .last .0)
 room t c =
     let s = c .before .before .before .before .before .before in
     omega (arith, s .pre .1, decimal-longer (s .args .n) (omega arith) (omega arith), c .before .before .put .ensures .ends, c .before .before .put .kept .0)

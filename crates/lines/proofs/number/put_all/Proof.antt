@@ -12,13 +12,14 @@ use Rattle.lines.proofs.number.put_all.Statement.{statement}
 use Rattle.lines.proofs.number.put_all.Tie as tie
 
 abbrev Inv-loop : tie.InvT-loop
-Inv-loop out₀ at numbers i₀ e₀ out i e = Appended out₀ at (spaced (take i numbers)) out e × (length out ≡ length out₀) × (i ≤ length numbers) × (e ≤ at + 21 * i)
+Inv-loop out₀ at numbers i₀ e₀ out i e =
+    Appended out₀ at (spaced (take i numbers)) out e × (length out ≡ length out₀) × (i ≤ length numbers) × (e ≤ at + 21 * i)
 
 abbrev μ-loop : tie.MeasureT-loop
 μ-loop out₀ at numbers i₀ e₀ out i e = length numbers - i
 
 loop-holds : tie.Need-loop-holds Inv-loop μ-loop
-loop-holds c = (numbers-start _ _, refl, omega arith, omega arith)
+loop-holds c = (numbers-start _ _ (omega arith), refl, omega arith, omega arith)
 
 slice-write-out : tie.Need-slice-write-out Inv-loop μ-loop
 slice-write-out c = search needs

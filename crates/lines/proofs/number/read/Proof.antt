@@ -1,21 +1,20 @@
 -- `lines::number::read` meets its contract. Assumes nothing.
-use Prim.Native.Nat.{_-_, _<_, _^_}
+use Prim.Native.Nat.{_-_}
 use native.Mathlib.Omega.{arith}
 use borrow.Author.Needs.{needs}
 use lib.ListN.{length}
-use Rattle.lines.proofs.Readings.{digit-first, digit-next}
-use Rattle.lines.specs.Reading.{NumberAt}
+use Rattle.lines.proofs.Readings.{Begun, digit-first, digit-next, number-here, number-end, none-past, none-first, none-more}
 use Rattle.lines.proofs.number.read.Statement.{statement}
 use Rattle.lines.proofs.number.read.Tie as tie
 
 abbrev Inv-loop : tie.InvT-loop
-Inv-loop s at v₀ e₀ v e = NumberAt s at v e × (v < 2 ^ 64)
+Inv-loop s at v₀ e₀ v e = Begun s at v e
 
 abbrev μ-loop : tie.MeasureT-loop
 μ-loop s at v₀ e₀ v e = length s - e
 
 returns : tie.Need-returns Inv-loop μ-loop
-returns c = search needs
+returns c = none-past _ _ (c .if1 .taken)
 
 shared-slice-read-digit : tie.Need-shared-slice-read-digit Inv-loop μ-loop
 shared-slice-read-digit c = search needs
@@ -24,7 +23,10 @@ digit-requires : tie.Need-digit-requires Inv-loop μ-loop
 digit-requires c κs = search needs
 
 returns-2 : tie.Need-returns-2 Inv-loop μ-loop
-returns-2 c = search needs
+returns-2 c =
+    let d = c .before in
+    let s = d .before .before .before .before in
+    none-first (s .args .s .now) (s .args .at) (omega arith) (omega (arith, d .digit .ensures))
 
 add-e : tie.Need-add-e Inv-loop μ-loop
 add-e c = search needs
@@ -33,7 +35,7 @@ loop-holds : tie.Need-loop-holds Inv-loop μ-loop
 loop-holds c =
     let d = c .before in
     let s = d .before .before .before .before in
-    (digit-first (s .args .s .now) (s .args .at) (d .digit .result) (omega arith) (omega arith) (d .digit .ensures .0 (omega arith)), omega arith)
+    digit-first (s .args .s .now) (s .args .at) (d .digit .result) (omega arith) (omega arith) (omega (arith, d .digit .ensures))
 
 shared-slice-read-digit-2 : tie.Need-shared-slice-read-digit-2 Inv-loop μ-loop
 shared-slice-read-digit-2 c = search needs
@@ -42,16 +44,24 @@ digit-requires-2 : tie.Need-digit-requires-2 Inv-loop μ-loop
 digit-requires-2 c κs = search needs
 
 returns-3 : tie.Need-returns-3 Inv-loop μ-loop
-returns-3 c = search needs
+returns-3 c =
+    let l = c .before .before .before .before in
+    number-here (l .loop .inv) (omega arith) (omega (arith, c .before .digit2 .ensures))
 
 returns-4 : tie.Need-returns-4 Inv-loop μ-loop
-returns-4 c = search needs
+returns-4 c =
+    let d = c .before .before in
+    let l = d .before .before .before in
+    none-more (l .loop .inv) (omega arith) (omega (arith, d .digit2 .ensures)) (λ p. omega (arith, p .0, c .if4 .taken))
 
 sub-if5 : tie.Need-sub-if5 Inv-loop μ-loop
 sub-if5 c = search needs
 
 returns-5 : tie.Need-returns-5 Inv-loop μ-loop
-returns-5 c = search needs
+returns-5 c =
+    let d = c .before .before .before in
+    let l = d .before .before .before in
+    none-more (l .loop .inv) (omega arith) (omega (arith, d .digit2 .ensures)) (λ p. omega (arith, p .1, d .digit2 .ensures, c .if5 .taken))
 
 mul-v : tie.Need-mul-v Inv-loop μ-loop
 mul-v c = search needs
@@ -69,11 +79,12 @@ loop-again : tie.Need-loop-again Inv-loop μ-loop
 loop-again c =
     let d = c .before .before .before in
     let l = d .before .before .before in
-    let fits = l .loop .inv .1 in
-    (digit-next (d .digit2 .result) (l .loop .inv .0) (omega arith) (omega arith) (omega arith) (d .digit2 .ensures .0 (omega arith)) (omega arith), omega arith)
+    let fits = l .loop .inv .small in
+    let is = d .digit2 .ensures in
+    digit-next (d .digit2 .result) (l .loop .inv) (omega arith) (omega arith) (omega arith) (omega arith) (omega arith)
 
 returns-6 : tie.Need-returns-6 Inv-loop μ-loop
-returns-6 c = search needs
+returns-6 c = number-end (c .before .loop .inv) (c .loop-test .left)
 
 pub read-spec : {M : Type 1} → statement M
 read-spec =

@@ -5,18 +5,20 @@ use native.Mathlib.Omega.{arith}
 use borrow.Author.Needs.{needs}
 use lib.ListN.{length, length-set}
 use Rattle.lines.specs.Reading.{NumberAt, IsNumber}
-use Rattle.lines.proofs.Readings.{upto-start, upto-turn, upto-end, Upto}
+use Rattle.lines.proofs.Readings.{Upto, upto-start, upto-turn, upto-end, upto-stuck, blank-next}
+use Rattle.lines.proofs.Apart.{stops-spaced}
+use Rattle.lines.specs.Text.{spaced}
 use Rattle.lines.proofs.number.read_all.Statement.{statement}
 use Rattle.lines.proofs.number.read_all.Tie as tie
 
 abbrev Inv-loop : tie.InvT-loop
-Inv-loop s at out₀ n₀ e₀ out n e = Upto s at e n out × (length out ≡ length out₀)
+Inv-loop s at out₀ n₀ e₀ out n e = Upto s at e n out₀ out × (length out ≡ length out₀)
 
 abbrev μ-loop : tie.MeasureT-loop
 μ-loop s at out₀ n₀ e₀ out n e = length s - e
 
 loop-holds : tie.Need-loop-holds Inv-loop μ-loop
-loop-holds c = (upto-start _ _ _ (c .before .before .pre), refl)
+loop-holds c = let s = c .before .before in (upto-start _ _ _ (s .pre .0) (s .pre .1), refl)
 
 shared-slice-read-if1 : tie.Need-shared-slice-read-if1 Inv-loop μ-loop
 shared-slice-read-if1 c = search needs
@@ -25,13 +27,18 @@ same-length : tie.Need-same-length Inv-loop μ-loop
 same-length c = search needs
 
 returns : tie.Need-returns Inv-loop μ-loop
-returns c = search needs
+returns c =
+    let l = c .before .before .before in
+    let s = l .before .before .before in
+    upto-stuck (l .loop .inv .0) (omega arith) (λ v ns a q h. c .if1 .taken (blank-next (s .args .s .now) (l .loop .e) _ (omega arith) q .0))
 
 same-length-2 : tie.Need-same-length-2 Inv-loop μ-loop
 same-length-2 c = search needs
 
 returns-2 : tie.Need-returns-2 Inv-loop μ-loop
-returns-2 c = search needs
+returns-2 c =
+    let l = c .before .before .before .before in
+    upto-stuck (l .loop .inv .0) (omega arith) (λ v ns a q h. omega (arith, c .if2 .taken, l .loop .inv .1))
 
 add-read : tie.Need-add-read Inv-loop μ-loop
 add-read c = search needs
@@ -49,7 +56,13 @@ same-length-3 : tie.Need-same-length-3 Inv-loop μ-loop
 same-length-3 c = search needs
 
 returns-3 : tie.Need-returns-3 Inv-loop μ-loop
-returns-3 c = search needs
+returns-3 c =
+    let r = c .before .before in
+    let l = r .before .before .before .before .before in
+    let s = l .before .before .before in
+    let none = subst (IsNumber (s .args .s .now) (l .loop .e + 1)) (c .enum-told .given .1) (r .read .ensures) in
+    upto-stuck (l .loop .inv .0) (omega arith)
+    (λ v ns a q h. none v (spaced ns) a (stops-spaced ns) (blank-next (s .args .s .now) (l .loop .e) _ (omega arith) q .1))
 
 mul-out : tie.Need-mul-out Inv-loop μ-loop
 mul-out c = search needs
@@ -62,7 +75,8 @@ add-n c = search needs
 
 -- the number that was read
 told : (c : tie.After-known-told Inv-loop μ-loop)
-    → NumberAt (c .before .before .before .before .before .before .before .before .before .before .before .args .s .now) (c .before .before .before .before .before .before .before .before .loop .e + 1) (c .before .v .given .0 .0) (c .before .v .given .0 .1 .0)
+    → let l = c .before .before .before .before .before .before .before .before in
+    NumberAt (l .before .before .before .args .s .now) (l .loop .e + 1) (c .before .v .given .0 .0) (c .before .v .given .0 .1 .0)
 told c = subst (IsNumber _ _) (c .before .v .given .1) (c .before .before .before .read .ensures)
 
 loop-less : tie.Need-loop-less Inv-loop μ-loop

@@ -18,7 +18,7 @@ abbrev μ-loop : tie.MeasureT-loop
 μ-loop out₀ at width value i₀ out i = width - i
 
 loop-holds : tie.Need-loop-holds Inv-loop μ-loop
-loop-holds c = (bytes-start _ (binary (c .args .width) (c .args .value)) _, refl, omega arith)
+loop-holds c = (bytes-start _ (binary (c .args .width) (c .args .value)) _ (omega (arith, c .pre)), refl, omega arith)
 
 sub-out : tie.Need-sub-out Inv-loop μ-loop
 sub-out c = search needs

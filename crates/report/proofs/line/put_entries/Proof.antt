@@ -19,7 +19,7 @@ abbrev μ-loop : tie.MeasureT-loop
 μ-loop out₀ at list n i₀ e₀ out i e = n - i
 
 loop-holds : tie.Need-loop-holds Inv-loop μ-loop
-loop-holds c = (numbers-start _ _, refl, omega arith, omega arith)
+loop-holds c = (numbers-start _ _ (omega (arith, c .before .before .pre)), refl, omega arith, omega arith)
 
 slice-write-out : tie.Need-slice-write-out Inv-loop μ-loop
 slice-write-out c = search needs

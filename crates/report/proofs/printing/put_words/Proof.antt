@@ -18,7 +18,7 @@ abbrev μ-loop : tie.MeasureT-loop
 μ-loop out₀ at words model n i₀ e₀ out i e = n - i
 
 loop-holds : tie.Need-loop-holds Inv-loop μ-loop
-loop-holds c = (pieces-start _ _ _, refl, omega arith, omega arith)
+loop-holds c = (pieces-start _ _ _ (omega (arith, c .before .before .before .pre .1)), refl, omega arith, omega arith)
 
 mul-put-word : tie.Need-mul-put-word Inv-loop μ-loop
 mul-put-word c = search needs

@@ -1,0 +1,48 @@
+// Memory to lend. A contract gives only its length, so that no proof goes through its elements.
+ghost use mathlib.Core.Path.{_≡_};
+ghost use lib.ListN.{length};
+
+// What lent memory holds before a call.
+pub const DIRT: u64 = 7;
+
+pub const DIRT_BYTE: u8 = 7;
+
+// For the numbers of a line.
+pub fn numbers() -> [u64; 4096]
+    ensures { λ r. ⌜ 4096 ≡ length r ⌝ }
+{
+    [0; 4096]
+}
+
+// For the rules of a line.
+pub fn rules() -> [u8; 2048]
+    ensures { λ r. ⌜ 2048 ≡ length r ⌝ }
+{
+    [0; 2048]
+}
+
+// For the file of a line.
+pub fn file() -> [u8; 4096]
+    ensures { λ r. ⌜ 4096 ≡ length r ⌝ }
+{
+    [0; 4096]
+}
+
+pub fn work() -> [u64; 512]
+    ensures { λ r. ⌜ 512 ≡ length r ⌝ }
+{
+    [DIRT; 512]
+}
+
+// For words, and for rules or a file, that a call stores.
+pub fn dirty_words() -> [u64; 128]
+    ensures { λ r. ⌜ 128 ≡ length r ⌝ }
+{
+    [DIRT; 128]
+}
+
+pub fn dirty_bytes() -> [u8; 4096]
+    ensures { λ r. ⌜ 4096 ≡ length r ⌝ }
+{
+    [DIRT_BYTE; 4096]
+}

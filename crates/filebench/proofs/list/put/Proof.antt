@@ -1,0 +1,74 @@
+-- `filebench::list::put` meets its contract. Assumes nothing.
+use mathlib.Core.Path.{_≡_, refl}
+use Prim.Native.Nat.{_+_, _-_, _≤_}
+use native.Mathlib.Omega.{arith}
+use lib.ListN.{length, take, length-set}
+use Rattle.lines.specs.Putting.{Appended}
+use Rattle.lines.proofs.Puts.{bytes-start, bytes-turn, bytes-end}
+use borrow.Author.Needs.{needs}
+use Rattle.filebench.proofs.list.put.Statement.{statement}
+use Rattle.filebench.proofs.list.put.Tie as tie
+
+abbrev Inv-loop : tie.InvT-loop
+Inv-loop out₀ at from i₀ out i = Appended out₀ at (take i from) out (at + i) × (length out ≡ length out₀) × (i ≤ length from)
+
+abbrev μ-loop : tie.MeasureT-loop
+μ-loop out₀ at from i₀ out i = length from - i
+
+loop-holds : tie.Need-loop-holds Inv-loop μ-loop
+loop-holds c = (bytes-start _ (c .args .from .now) _ (omega (arith, c .pre)), refl, omega arith)
+
+mul-out : tie.Need-mul-out Inv-loop μ-loop
+mul-out c = search needs
+
+shared-slice-read-out : tie.Need-shared-slice-read-out Inv-loop μ-loop
+shared-slice-read-out c = search needs
+
+add-out : tie.Need-add-out Inv-loop μ-loop
+add-out c = search needs
+
+mul-out-2 : tie.Need-mul-out-2 Inv-loop μ-loop
+mul-out-2 c = search needs
+
+slice-write-out : tie.Need-slice-write-out Inv-loop μ-loop
+slice-write-out c = search needs
+
+add-i : tie.Need-add-i Inv-loop μ-loop
+add-i c = search needs
+
+loop-less : tie.Need-loop-less Inv-loop μ-loop
+loop-less c = search needs
+
+loop-again : tie.Need-loop-again Inv-loop μ-loop
+loop-again c =
+    let l = c .before .before in
+    let s = l .before in
+    (bytes-turn (s .args .from .now) (l .loop .i) (l .loop .inv .0) (omega arith) (omega (arith, s .pre)), simp length-set (omega arith), omega arith)
+
+add-result : tie.Need-add-result Inv-loop μ-loop
+add-result c = search needs
+
+same-length : tie.Need-same-length Inv-loop μ-loop
+same-length c = search needs
+
+returns : tie.Need-returns Inv-loop μ-loop
+returns c = bytes-end _ _ (c .before .loop .inv .0) (c .loop-test .left)
+
+pub put-spec : {M : Type 1} → statement M
+put-spec =
+    tie.close
+    (tie.spec
+    Inv-loop
+    μ-loop
+    loop-holds
+    mul-out
+    shared-slice-read-out
+    add-out
+    mul-out-2
+    slice-write-out
+    add-i
+    loop-less
+    loop-again
+    add-result
+    same-length
+    returns)

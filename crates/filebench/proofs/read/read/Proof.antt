@@ -1,0 +1,107 @@
+-- `filebench::read::read` meets its contract. Assumes nothing.
+use native.Mathlib.Omega.{arith}
+use lib.ListN.{length-append, length-take, length-drop}
+use borrow.Author.Needs.{needs}
+use Rattle.filebench.proofs.read.read.Statement.{statement}
+use Rattle.filebench.proofs.read.read.Tie as tie
+
+returns : tie.Need-returns
+returns c = search needs
+
+shared-slice-read-w : tie.Need-shared-slice-read-w
+shared-slice-read-w c = search needs
+
+shared-slice-read-r : tie.Need-shared-slice-read-r
+shared-slice-read-r c = search needs
+
+shared-slice-read-length : tie.Need-shared-slice-read-length
+shared-slice-read-length c = search needs
+
+returns-2 : tie.Need-returns-2
+returns-2 c = search needs
+
+returns-3 : tie.Need-returns-3
+returns-3 c = search needs
+
+returns-4 : tie.Need-returns-4
+returns-4 c = search needs
+
+file-requires : tie.Need-file-requires
+file-requires c κs = search needs
+
+array-borrow-prefix-file : tie.Need-array-borrow-prefix-file
+array-borrow-prefix-file c = search needs
+
+slice-aggregate-put-runs : tie.Need-slice-aggregate-put-runs
+slice-aggregate-put-runs c = simp length-take (omega arith)
+
+put-runs-requires : tie.Need-put-runs-requires
+put-runs-requires c κs = simp length-take (omega arith)
+
+returns-5 : tie.Need-returns-5
+returns-5 c = search needs
+
+dirty-words-requires : tie.Need-dirty-words-requires
+dirty-words-requires c κs = search needs
+
+dirty-bytes-requires : tie.Need-dirty-bytes-requires
+dirty-bytes-requires c κs = search needs
+
+array-share-prefix-file : tie.Need-array-share-prefix-file
+array-share-prefix-file c =
+    let p = c .before .before .before .before in
+    simp (length-append, length-drop) (omega (arith, simp length-take at (p .put-runs .kept .0)))
+
+slice-aggregate-read-lent : tie.Need-slice-aggregate-read-lent
+slice-aggregate-read-lent c =
+    let p = c .before .before .before .before .before in
+    simp (length-take, length-append, length-drop) (omega (arith, simp length-take at (p .put-runs .kept .0)))
+
+array-borrow-prefix-words : tie.Need-array-borrow-prefix-words
+array-borrow-prefix-words c = search needs
+
+slice-aggregate-read-lent-2 : tie.Need-slice-aggregate-read-lent-2
+slice-aggregate-read-lent-2 c = simp length-take (omega arith)
+
+array-borrow-prefix-rules : tie.Need-array-borrow-prefix-rules
+array-borrow-prefix-rules c = search needs
+
+slice-aggregate-read-lent-3 : tie.Need-slice-aggregate-read-lent-3
+slice-aggregate-read-lent-3 c = simp length-take (omega arith)
+
+read-lent-requires : tie.Need-read-lent-requires
+read-lent-requires c κs = simp length-take (omega arith)
+
+same-length : tie.Need-same-length
+same-length c = search needs
+
+returns-6 : tie.Need-returns-6
+returns-6 c = search needs
+
+pub read-spec : {M : Type 1} → statement M
+read-spec =
+    tie.close
+    (tie.spec
+    returns
+    shared-slice-read-w
+    shared-slice-read-r
+    shared-slice-read-length
+    returns-2
+    returns-3
+    returns-4
+    file-requires
+    array-borrow-prefix-file
+    slice-aggregate-put-runs
+    put-runs-requires
+    returns-5
+    dirty-words-requires
+    dirty-bytes-requires
+    array-share-prefix-file
+    slice-aggregate-read-lent
+    array-borrow-prefix-words
+    slice-aggregate-read-lent-2
+    array-borrow-prefix-rules
+    slice-aggregate-read-lent-3
+    read-lent-requires
+    same-length
+    returns-6)

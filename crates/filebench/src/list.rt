@@ -1,0 +1,67 @@
+// Numbers of an answer, one list behind the other.
+ghost use mathlib.Core.Path.{_≡_};
+ghost use Prim.Native.Nat.{_+_, _≤_};
+ghost use lib.ListN.{length};
+ghost use Rattle.lines.specs.Putting.{Appended};
+
+// A list put at `at`: where it ends.
+pub fn put(out: &mut [u64], at: usize, from: &[u64]) -> usize
+    requires { ⌜ at + length (now from) ≤ length (now out) ⌝ }
+    ensures { λ r. ⌜ Appended (now (out .entry)) at (now (from .entry)) (now (out .exit)) r ⌝ }
+{
+    let mut i = 0;
+    while i < from.len() {
+        out[at + i] = from[i];
+        i += 1;
+    }
+    at + i
+}
+
+fn wide(x: u8) -> u64
+    ensures { λ r. ⌜ r ≡ x ⌝ }
+{
+    x as u64
+}
+
+// Bytes put at `at` as numbers: where they end.
+pub fn put_bytes(out: &mut [u64], at: usize, from: &[u8]) -> usize
+    requires { ⌜ at + length (now from) ≤ length (now out) ⌝ }
+    ensures { λ r. ⌜ Appended (now (out .entry)) at (now (from .entry)) (now (out .exit)) r ⌝ }
+{
+    let mut i = 0;
+    while i < from.len() {
+        out[at + i] = wide(from[i]);
+        i += 1;
+    }
+    at + i
+}
+
+// A byte that is not 0 put at `at` with its position: where the pair ends, or where it would begin.
+fn put_pair(out: &mut [u64], at: usize, position: usize, x: u8) -> usize
+    requires { ⌜ at + 2 ≤ length (now out) ⌝ }
+    ensures { λ r. ⌜ (at ≤ r) × (r ≤ at + 2) ⌝ }
+{
+    if x == 0 {
+        return at;
+    }
+    out[at] = position as u64;
+    out[at + 1] = wide(x);
+    at + 2
+}
+
+// The bytes that are not 0, each after its position, put at `at`: where they end, or 0 where there may be no room for the next one.
+pub fn put_pairs(out: &mut [u64], at: usize, from: &[u8]) -> usize
+    requires { ⌜ at ≤ length (now out) ⌝ }
+    ensures { λ r. ⌜ r ≤ length (now (out .exit)) ⌝ }
+{
+    let mut e = at;
+    let mut i = 0;
+    while i < from.len() {
+        if out.len() - e < 2 {
+            return 0;
+        }
+        e = put_pair(out, e, i, from[i]);
+        i += 1;
+    }
+    e
+}

@@ -1,0 +1,138 @@
+-- `solvebench::causing::cause` meets its contract. Assumes nothing.
+use mathlib.Core.Path.{subst, sym}
+use native.Mathlib.Omega.{arith}
+use lib.Seq.{length-take-le}
+use lib.ListN.{getD}
+use denote.Ref.{now}
+use Rattle.benchtop.specs.Parts.{Parts}
+use Rattle.benchtop.proofs.Problems.{PartsAt, parts-at}
+use denote.Ref.{now}
+use borrow.Author.Needs.{needs}
+use Rattle.solvebench.proofs.causing.cause.Statement.{statement}
+use Rattle.solvebench.proofs.causing.cause.Tie as tie
+
+-- the parts that the problem has
+parts : (c : tie.After-known-told)
+    → let p = c .before .before .before .before in
+    let s = p .before .before .before .before .before .before in
+    PartsAt (now (s .args .numbers)) 3 (p .problem-of .last .1 .1 .0) (c .before .end .given .0 .0) (c .before .end .given .0 .1 .0)
+parts c = parts-at _ _ _ _ _ _ (subst (Parts _ _ _ _) (c .before .end .given .1) (c .before .before .before .before .problem-of .ensures))
+
+rules-requires : tie.Need-rules-requires
+rules-requires c κs = search needs
+
+slice-aggregate-problem-of : tie.Need-slice-aggregate-problem-of
+slice-aggregate-problem-of c = search needs
+
+problem-of-requires : tie.Need-problem-of-requires
+problem-of-requires c κs = search needs
+
+enum-known-end : tie.Need-enum-known-end
+enum-known-end c = search needs
+
+enum-told : tie.Need-enum-told
+enum-told c = search needs
+
+returns : tie.Need-returns
+returns c = search needs
+
+shared-slice-read-limit : tie.Need-shared-slice-read-limit
+shared-slice-read-limit c = let q = parts (c .before) in omega (arith, q .words, q .whole)
+
+returns-2 : tie.Need-returns-2
+returns-2 c = search needs
+
+shared-slice-read-room : tie.Need-shared-slice-read-room
+shared-slice-read-room c = let q = parts (c .before .before .before) in omega (arith, q .words, q .whole)
+
+returns-3 : tie.Need-returns-3
+returns-3 c = search needs
+
+shared-slice-read-length : tie.Need-shared-slice-read-length
+shared-slice-read-length c = let q = parts (c .before .before .before .before .before) in omega (arith, q .words, q .whole)
+
+returns-4 : tie.Need-returns-4
+returns-4 c = search needs
+
+entries-requires : tie.Need-entries-requires
+entries-requires c κs = search needs
+
+work-requires : tie.Need-work-requires
+work-requires c κs = search needs
+
+sub-cause-lent : tie.Need-sub-cause-lent
+sub-cause-lent c = parts (c .before .before .before .before .before .before .before .before) .words
+
+part-cause-lent-start : tie.Need-part-cause-lent-start
+part-cause-lent-start c = parts (c .before .before .before .before .before .before .before .before) .words
+
+part-cause-lent-end : tie.Need-part-cause-lent-end
+part-cause-lent-end c = omega (arith, parts (c .before .before .before .before .before .before .before .before) .whole)
+
+array-share-prefix-rules : tie.Need-array-share-prefix-rules
+array-share-prefix-rules c = parts (c .before .before .before .before .before .before .before .before .before) .rules
+
+slice-aggregate-cause-lent : tie.Need-slice-aggregate-cause-lent
+slice-aggregate-cause-lent c = sym (length-take-le _ _ (parts (c .before .before .before .before .before .before .before .before .before .before) .rules))
+
+cast-cause-lent : tie.Need-cast-cause-lent
+cast-cause-lent c = search needs
+
+array-borrow-prefix-entries : tie.Need-array-borrow-prefix-entries
+array-borrow-prefix-entries c = search needs
+
+slice-aggregate-cause-lent-2 : tie.Need-slice-aggregate-cause-lent-2
+slice-aggregate-cause-lent-2 c =
+    let w = c .before .before .before .before in
+    let s = w .before .before .before .before .before .before .before .before .before .before .before .before .before .before .before .before .before in
+    sym (length-take-le (getD (now (s .args .numbers)) 1 0) (w .entries .result) (omega (arith, w .entries .ensures, w .before .before .before .if2 .left)))
+
+array-borrow-prefix-work : tie.Need-array-borrow-prefix-work
+array-borrow-prefix-work c = search needs
+
+slice-aggregate-cause-lent-3 : tie.Need-slice-aggregate-cause-lent-3
+slice-aggregate-cause-lent-3 c =
+    let w = c .before .before .before .before in
+    let s = w .before .before .before .before .before .before .before .before .before .before .before .before .before .before .before .before .before .before in
+    sym (length-take-le (getD (now (s .args .numbers)) 2 0) (w .work .result) (omega (arith, w .work .ensures, w .before .before .if3 .left)))
+
+cause-lent-requires : tie.Need-cause-lent-requires
+cause-lent-requires c κs = search needs
+
+same-length : tie.Need-same-length
+same-length c = search needs
+
+returns-5 : tie.Need-returns-5
+returns-5 c = search needs
+
+pub cause-spec : {M : Type 1} → statement M
+cause-spec =
+    tie.close
+    (tie.spec
+    rules-requires
+    slice-aggregate-problem-of
+    problem-of-requires
+    enum-known-end
+    enum-told
+    returns
+    shared-slice-read-limit
+    returns-2
+    shared-slice-read-room
+    returns-3
+    shared-slice-read-length
+    returns-4
+    entries-requires
+    work-requires
+    sub-cause-lent
+    part-cause-lent-start
+    part-cause-lent-end
+    array-share-prefix-rules
+    slice-aggregate-cause-lent
+    cast-cause-lent
+    array-borrow-prefix-entries
+    slice-aggregate-cause-lent-2
+    array-borrow-prefix-work
+    slice-aggregate-cause-lent-3
+    cause-lent-requires
+    same-length
+    returns-5)
