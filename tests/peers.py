@@ -40,7 +40,7 @@ def keep(board):
     os.makedirs(KEPT, exist_ok=True)
     with open(f"{KEPT}/{board.name}.txt", "w", encoding="ascii") as file:
         file.write(board.text())
-    with open(f"{KEPT}/{board.name}.board", "wb") as file:
+    with open(f"{KEPT}/{board.name}.blocks", "wb") as file:
         file.write(board.file())
 
 

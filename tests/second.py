@@ -33,7 +33,7 @@ def printed(command, board):
 def keep(name, board, wanted, got):
     """Puts aside what reproduces a failure."""
     os.makedirs(KEPT, exist_ok=True)
-    shutil.copy(board, f"{KEPT}/{name}.board")
+    shutil.copy(board, f"{KEPT}/{name}.blocks")
     for ending, lines in (("wanted", wanted), ("printed", got)):
         with open(f"{KEPT}/{name}.{ending}", "wb") as file:
             file.write(lines)
@@ -42,8 +42,8 @@ def keep(name, board, wanted, got):
 def compare(program, folder):
     """Counts of boards that passed and failed."""
     passed = failed = 0
-    for number, name in enumerate(sorted(x[: -len(".board")] for x in os.listdir(folder) if x.endswith(".board"))):
-        board = f"{folder}/{name}.board"
+    for number, name in enumerate(sorted(x[: -len(".blocks")] for x in os.listdir(folder) if x.endswith(".blocks"))):
+        board = f"{folder}/{name}.blocks"
         with open(f"{folder}/{name}.lines", "rb") as file:
             wanted = file.read()
         commands = [program] + ([BUILT] if number % AGAIN == 0 else [])
@@ -55,7 +55,7 @@ def compare(program, folder):
             failed += 1
             keep(name, board, wanted, got)
             if failed <= 10:
-                print(f"board {name}: {command} < {KEPT}/{name}.board prints {got[:200]!r}, and the paper says {wanted[:200]!r}")
+                print(f"board {name}: {command} < {KEPT}/{name}.blocks prints {got[:200]!r}, and the paper says {wanted[:200]!r}")
     return passed, failed
 
 

@@ -159,7 +159,7 @@ fn sort(lines: &str) -> String {
     }
 }
 
-/// Writes the boards worked by hand and so many made ones, each as NAME.board and NAME.lines, into a folder; gives how many there are of each sort.
+/// Writes the boards worked by hand and so many made ones, each as NAME.blocks and NAME.lines, into a folder; gives how many there are of each sort.
 pub fn write_all(folder: &Path, count: usize, seed: u64) -> std::io::Result<String> {
     std::fs::create_dir_all(folder)?;
     let mut random = Random(seed);
@@ -170,7 +170,7 @@ pub fn write_all(folder: &Path, count: usize, seed: u64) -> std::io::Result<Stri
     let by_hand = hand::boards().into_iter().map(|(name, problem, lines)| (format!("hand-{name}"), write(&problem), lines));
     let mut sorts = BTreeMap::new();
     for (name, bytes, lines) in by_hand.chain(made) {
-        std::fs::write(folder.join(format!("{name}.board")), bytes)?;
+        std::fs::write(folder.join(format!("{name}.blocks")), bytes)?;
         std::fs::write(folder.join(format!("{name}.lines")), &lines)?;
         *sorts.entry(sort(&lines)).or_insert(0) += 1;
     }
