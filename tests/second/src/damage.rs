@@ -30,7 +30,10 @@ pub fn damaged(problem: &Problem, random: &mut Random) -> Vec<u8> {
 fn spoil_problem(number: u64, problem: &mut Problem, random: &mut Random) {
     let (i, j) = (random.below(problem.words.len().max(1) as u64) as usize, random.below(problem.rules.len().max(1) as u64) as usize);
     let words = problem.words.len();
-    let Some(word) = problem.words.get_mut(i) else { return };
+    let word = match problem.words.get_mut(i) {
+        Some(word) => word,
+        None => return,
+    };
     match number {
         4 => word.width = random.pick(&[0, 65, 66, 128, 255]),
         5 => match random.below(3) {
@@ -42,7 +45,10 @@ fn spoil_problem(number: u64, problem: &mut Problem, random: &mut Random) {
         _ => {}
     }
     let widths: Vec<u8> = problem.words.iter().map(|word| word.width).collect();
-    let Some(rule) = problem.rules.get_mut(j) else { return };
+    let rule = match problem.rules.get_mut(j) {
+        Some(rule) => rule,
+        None => return,
+    };
     match number {
         6 => rule.kind = random.pick(&[0, 15, 16, 128, 255]),
         7 if random.once_in(2) => {

@@ -74,7 +74,10 @@ fn around_values(most_words: u64, most_rules: u64, widths: &[u8], percent: u64, 
         if kind <= 11 && (words.len() as u64) < wanted_words {
             words.push(fixed(random.pick(widths), random));
         }
-        let Some(mut rule) = some_rule(&words, kind, random) else { continue };
+        let mut rule = match some_rule(&words, kind, random) {
+            Some(rule) => rule,
+            None => continue,
+        };
         if kind <= 11 {
             rule.at[0] = words.len() as u8 - 1;
             if check_rule(&words, &rule).is_err() {

@@ -22,7 +22,10 @@ pub fn tightened(words: &[Word], rules: &[Rule], meter: &mut Meter) -> Result<Op
     loop {
         let before = table.clone();
         for rule in rules {
-            let Some(left) = narrowed(&table, rule, meter)? else { return Ok(None) };
+            let left = match narrowed(&table, rule, meter)? {
+                Some(left) => left,
+                None => return Ok(None),
+            };
             for p in places(rule.kind) {
                 let word = &mut table[usize::from(rule.at[p])];
                 word.lo |= left[p].lo;
@@ -47,15 +50,19 @@ pub fn solve(words: &[Word], rules: &[Rule], limit: u32, meter: &mut Meter) -> R
 
 fn branch(words: &[Word], rules: &[Rule], limit: u32, count: &mut u32, meter: &mut Meter) -> Result<Answer, TooLong> {
     meter.spend(1)?;
-    let Some(tight) = tightened(words, rules, meter)? else { return Ok(Answer::None) };
-    let Some(i) = tight.iter().position(|word| word.lo != word.hi) else {
-        return Ok(Answer::Found(tight.iter().map(|word| word.lo).collect()));
+    let tight = match tightened(words, rules, meter)? {
+        Some(tight) => tight,
+        None => return Ok(Answer::None),
+    };
+    let i = match tight.iter().position(|word| word.lo != word.hi) {
+        Some(i) => i,
+        None => return Ok(Answer::Found(tight.iter().map(|word| word.lo).collect())),
     };
     if *count == limit {
         return Ok(Answer::GaveUp);
     }
     *count += 1;
-    let bit = 1 << (tight[i].lo ^ tight[i].hi).ilog2();
+    let bit = 1 << (63 - (tight[i].lo ^ tight[i].hi).leading_zeros());
     let mut zero = tight.clone();
     zero[i].hi &= !bit;
     let answer = branch(&zero, rules, limit, count, meter)?;
@@ -104,8 +111,9 @@ mod tests {
 
     /// The first settings, by going through all values of all words in order; the last word changes fastest.
     fn first_settings(words: &[Word], rules: &[Rule], chosen: &mut Vec<u64>) -> bool {
-        let Some(word) = words.get(chosen.len()) else {
-            return rules.iter().all(|rule| holds(rule.kind, rule.k, widths_of(words, rule), rule.at.map(|i| chosen[usize::from(i)])));
+        let word = match words.get(chosen.len()) {
+            Some(word) => word,
+            None => return rules.iter().all(|rule| holds(rule.kind, rule.k, widths_of(words, rule), rule.at.map(|i| chosen[usize::from(i)]))),
         };
         let mut value = word.lo;
         loop {
@@ -114,7 +122,10 @@ mod tests {
                 return true;
             }
             chosen.pop();
-            let Some(next) = (value + 1..=word.hi).find(|x| x & word.lo == word.lo && x | word.hi == word.hi) else { return false };
+            let next = match (value + 1..=word.hi).find(|x| x & word.lo == word.lo && x | word.hi == word.hi) {
+                Some(next) => next,
+                None => return false,
+            };
             value = next;
         }
     }
@@ -137,7 +148,10 @@ mod tests {
                 continue;
             }
             none += 1;
-            let (Cause::Rules(kept), sum) = cause(words, rules, 1_000_000, count, &mut meter).unwrap() else { panic!("{problem:?} gives up") };
+            let (kept, sum) = match cause(words, rules, 1_000_000, count, &mut meter).unwrap() {
+                (Cause::Rules(kept), sum) => (kept, sum),
+                (Cause::Unknown, _) => panic!("{problem:?} gives up"),
+            };
             assert!(!kept.is_empty() && sum >= u64::from(count));
             for dropped in std::iter::once(None).chain(kept.iter().map(Some)) {
                 let rest: Vec<Rule> = kept.iter().filter(|&i| Some(i) != dropped).map(|&i| rules[i]).collect();
