@@ -80,6 +80,8 @@ def main():
         if subprocess.run([BUILT, "make", folder, count, seed], check=False).returncode != 0:
             stop(f"{BUILT} made no boards; the messages above say why")
         passed, failed = compare(program if "/" in program else "./" + program, folder)
+    if passed + failed < int(count):
+        stop(f"{passed + failed} boards were compared, and {count} were asked for; see what {BUILT} make does")
     print(f"{passed} passed, {failed} failed")
     return 1 if failed or not passed else 0
 
