@@ -85,7 +85,8 @@ slice-aggregate-solve-lent-2 : tie.Need-slice-aggregate-solve-lent-2
 slice-aggregate-solve-lent-2 c =
     let w = c .before .before .before .before in
     let s = w .before .before .before .before .before .before .before .before .before .before .before .before .before .before .before .before .before in
-    sym (length-take-le (getD (now (s .args .numbers)) 1 0) (w .dirty-words .result) (omega (arith, w .dirty-words .ensures, w .before .before .before .if2 .left)))
+    sym (length-take-le (getD (now (s .args .numbers)) 1 0) (w .dirty-words .result)
+    (omega (arith, w .dirty-words .ensures, w .before .before .before .if2 .left)))
 
 array-borrow-prefix-work : tie.Need-array-borrow-prefix-work
 array-borrow-prefix-work c = search needs

@@ -1,0 +1,140 @@
+#!/usr/bin/env python3
+"""The adviser program against SMT-LIB: each operator's defining equation, laws that hold for all values, and a published script with its known result.
+
+tests/smtlib.py PROGRAM. The defining equations are those of the theory FixedSizeBitVectors, of the logic QF_BV (bvxor, bvule) and of the Core theory (ite,
+distinct), over lists of bits, lowest first; every choice of operands at a small width is a board with the result open. A law is a board in which its two sides
+differ: it must be unsat. The script is the swap without a temporary variable of SMT-LIB's example page, where `(check-sat)` answers unsat; its negated
+conjunction is cut into two boards, and x - y = z is written x = z + y.
+"""
+import importlib.util
+import itertools
+import subprocess
+import sys
+
+SPEC = importlib.util.spec_from_file_location("board", "tools/board.py")
+BOARD = importlib.util.module_from_spec(SPEC)
+SPEC.loader.exec_module(BOARD)
+
+
+def bits(n, width):
+    """nat2bv[m](n): the bit-vector whose bv2nat is n."""
+    return [n >> i & 1 for i in range(width)]
+
+
+def value(v):
+    """bv2nat."""
+    return sum(b << i for i, b in enumerate(v))
+
+
+# operator: what it denotes, over bit-vectors s and t
+DENOTES = {
+    "NOT": lambda s, t: [1 - b for b in s],
+    "AND": lambda s, t: [a & b for a, b in zip(s, t)],
+    "OR": lambda s, t: [a | b for a, b in zip(s, t)],
+    "XOR": lambda s, t: [int(a != b) for a, b in zip(s, t)],
+    "ADD": lambda s, t: bits(value(s) + value(t), len(s)),
+}
+COMPARES = {
+    "ULE": lambda s, t: value(s) <= value(t),
+    "ULT": lambda s, t: value(s) < value(t),
+    "NE": lambda s, t: s != t,
+}
+
+# laws of bit-vectors that hold for all x, y and z of a width: rules, and the two words that are then equal
+LAWS = {
+    "and commutes": (["AND p = x y", "AND q = y x"], "p q"),
+    "or commutes": (["OR p = x y", "OR q = y x"], "p q"),
+    "add commutes": (["ADD p = x y", "ADD q = y x"], "p q"),
+    "add associates": (["ADD a = x y", "ADD p = a z", "ADD b = y z", "ADD q = x b"], "p q"),
+    "not of and is or of nots": (["AND a = x y", "NOT p = a", "NOT b = x", "NOT c = y", "OR q = b c"], "p q"),
+    "xor by and, or and not": (["XOR p = x y", "OR a = x y", "AND b = x y", "NOT c = b", "AND q = a c"], "p q"),
+    "twice not": (["NOT a = x", "NOT p = a"], "p x"),
+    "add is xor where no bit is common": (["NOT y = x", "ADD p = x y", "XOR q = x y"], "p q"),
+    "shift by one is twice": (["SHL p = x 1", "ADD q = x x"], "p q"),
+    "extract of concat, above": (["JOIN w = x y", "SLICE p = w 3"], "p x"),
+    "extract of concat, below": (["JOIN w = x y", "SLICE p = w 0"], "p y"),
+    "ite of one value": (["ITE p = x if s else x"], "p x"),
+}
+WIDE = {"w": 6, "s": 1}
+
+
+def advised(program, lines):
+    """The lines that the program prints for a board's text."""
+    data = BOARD.blocks(*BOARD.parse("\n".join(["limit 100000"] + lines) + "\n"))
+    return subprocess.run([program], input=data, stdout=subprocess.PIPE, check=True).stdout.decode("ascii", "replace").splitlines()
+
+
+def fixed(name, v):
+    return f"word {name} {len(v)} = {value(v)}"
+
+
+def equations(program):
+    """Each operator at every choice of operands, the result open: no guess is needed, and the result is the one defined."""
+    width = 3
+    all_values = [bits(n, width) for n in range(1 << width)]
+    for name, denotes in DENOTES.items():
+        for s, t in itertools.product(all_values, repeat=2):
+            rule = f"{name} r = s" + ("" if name == "NOT" else " t")
+            wanted = denotes(s, t)
+            yield f"{name} {s} {t}", advised(program, [f"word r {width}", fixed("s", s), fixed("t", t), rule]), ["sat 0", wanted]
+    for name, compares in COMPARES.items():
+        for s, t in itertools.product(all_values, repeat=2):
+            lines = advised(program, [fixed("s", s), fixed("t", t), f"{name} s t"])
+            yield f"{name} {s} {t}", lines, ["sat 0" if compares(s, t) else "unsat 0"]
+    for s, t in itertools.product(all_values, repeat=2):
+        for c in (0, 1):
+            yield f"ITE {c} {s} {t}", advised(program, [f"word r {width}", fixed("s", s), fixed("t", t), fixed("c", [c]), "ITE r = s if c else t"]), [
+                "sat 0",
+                s if c else t,
+            ]
+        yield f"concat {s} {t}", advised(program, [f"word r {2 * width}", fixed("s", s), fixed("t", t), "JOIN r = s t"]), ["sat 0", t + s]
+    for s in [bits(n, 4) for n in range(16)]:
+        for k in range(4):
+            yield f"extract {k} {s}", advised(program, [f"word r {4 - k}", fixed("s", s), f"SLICE r = s {k}"]), ["sat 0", s[k:]]
+            yield f"bvshl {k} {s}", advised(program, ["word r 4", fixed("s", s), f"SHL r = s {k}"]), ["sat 0", bits(value(s) << k, 4)]
+            yield f"bvlshr {k} {s}", advised(program, ["word r 4", fixed("s", s), f"SHR r = s {k}"]), ["sat 0", bits(value(s) >> k, 4)]
+
+
+def laws(program):
+    """The two sides of a law made to differ: there are no settings."""
+    for name, (rules, sides) in LAWS.items():
+        used = sorted({item for rule in rules for item in rule.split()[1:] if item.isalpha() and item not in ("if", "else")} | set(sides.split()))
+        words = [f"word {item} {WIDE.get(item, 3)}" for item in used]
+        lines = advised(program, words + rules + [f"NE {sides}"])
+        yield "law: " + name, [line.partition(" ")[0] for line in lines[:1]], ["unsat"]
+
+
+def swap(program):
+    """x1 = x0 + y0, y1 = x1 - y0, x2 = x1 - y1; then x2 is y0 and y1 is x0. A wrong last step gives other values for some x0 and y0."""
+    words = [f"word {name} 4" for name in ("x0", "y0", "x1", "y1", "x2")]
+    steps = ["ADD x1 = x0 y0", "ADD x1 = y1 y0", "ADD x1 = x2 y1"]
+    for sides in ("x2 y0", "y1 x0"):
+        lines = advised(program, words + steps + [f"NE {sides}"])
+        yield f"swap, {sides} differ", [line.partition(" ")[0] for line in lines[:1]], ["unsat"]
+    wrong = advised(program, words + steps[:2] + ["ADD x2 = x1 y1", "NE x2 y0"])
+    yield "wrong swap", [line.partition(" ")[0] for line in wrong[:1]], ["sat"]
+
+
+def same(told, wanted):
+    """Whether the first line is the one wanted, and word 0 has the bits wanted."""
+    if not told or told[0] != wanted[0]:
+        return False
+    return len(wanted) == 1 or (len(told) > 1 and told[1].split()[-1] == "".join(str(b) for b in reversed(wanted[1])))
+
+
+def main():
+    if len(sys.argv) != 2:
+        sys.exit("use: tests/smtlib.py PROGRAM, the adviser program")
+    passed = failed = 0
+    for name, told, wanted in itertools.chain(equations(sys.argv[1]), laws(sys.argv[1]), swap(sys.argv[1])):
+        if same(told, wanted):
+            passed += 1
+        else:
+            failed += 1
+            print(f"{name}: {told}, and SMT-LIB says {wanted}")
+    print(f"{passed} passed, {failed} failed")
+    return 1 if failed else 0
+
+
+if __name__ == "__main__":
+    sys.exit(main())
