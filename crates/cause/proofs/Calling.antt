@@ -1,7 +1,7 @@
 -- The call's own steps: what is not refused is a proper problem with room, and what the trials come to is the answer.
 -- Assumes nothing.
-use mathlib.Core.Path.{_≡_, refl, sym, ap, subst, _∙_}
-use mathlib.Core.Bool.{Bool, true, false}
+use mathlib.Core.Path.{_≡_, sym, ap, subst, _∙_}
+use mathlib.Core.Bool.{true, false}
 use mathlib.Core.List.{List, []}
 use Prim.Native.Nat.{ℕ, _+_, _≤_, _<_}
 use native.Mathlib.Omega.{arith}
@@ -21,13 +21,12 @@ use Rattle.checker.proofs.Right.{ok-fine}
 use Rattle.checker.proofs.Series.{length-series, series-at}
 use Rattle.tighten.specs.Memory.{tableIn, Numbered, Cleared}
 use Rattle.tighten.proofs.Calling.{all-chosen, all-listed}
-use Rattle.search.specs.Search.{none, found, gave-up}
 use Rattle.search.proofs.Limit.{answer-none, count-limit}
 use Rattle.searcher.specs.declared.Answer.{Answer}
 use Rattle.searcher.specs.declared.Answer.the-variants.{Found, Nothing, GaveUp}
 use Rattle.searcher.specs.Searching.{outcomeOf}
 use Rattle.searcher.specs.Starting.{Asked, Sought}
-use Rattle.causes.specs.Cause.{Cause, EXISTS, CAUSE, GAVE-UP, Tried, Trims, Causes, exists, gives-up, trimmed}
+use Rattle.causes.specs.Cause.{Cause, CAUSE, Tried, Trims, exists, gives-up, trimmed}
 use Rattle.causes.proofs.Without.{cause-some}
 use Rattle.cause.specs.declared.Caused.{Caused}
 use Rattle.cause.specs.declared.Caused.the-variants as answer

@@ -1,9 +1,9 @@
 -- What the entries that `cause` gives back are: a list of rules without settings, of which none can be left out.
 -- Assumes nothing.
-use mathlib.Core.Path.{_≡_, refl, sym, subst, _∙_}
+use mathlib.Core.Path.{_≡_, sym, subst, _∙_}
 use mathlib.Core.Logic.{_≢_}
 use mathlib.Core.List.{List, map}
-use Prim.Native.Nat.{ℕ, zero, suc, _≤_, _<_}
+use Prim.Native.Nat.{ℕ, _<_}
 use native.Mathlib.Omega.{arith}
 use native.Mathlib.Decide.{ℕ-discrete}
 use lib.ListN.{length, take, length-take}
@@ -13,11 +13,11 @@ use Rattle.rules.specs.Tight.{rule, AllHold}
 use Rattle.rules.proofs.Propers.{proper-inside}
 use Rattle.checker.specs.Lent.{widthsOf, tableOf, rulesOf}
 use Rattle.search.specs.Settings.{Settings, Without}
-use Rattle.causes.specs.Cause.{CAUSE, Causes}
+use Rattle.causes.specs.Cause.{CAUSE}
 use Rattle.causes.proofs.Without.{cause-without, cause-some}
 use Rattle.causes.proofs.Irreducible.{In, cause-irreducible}
 use Rattle.cause.specs.declared.Caused.the-variants as answer
-use Rattle.cause.specs.Promise.{Given, Named, Entered, Causing, caused-by}
+use Rattle.cause.specs.Promise.{Given, Named, Causing, caused-by}
 use Rattle.cause.proofs.Calling.{fine}
 
 -- the rules of the lent problem whose numbers are listed

@@ -1,19 +1,17 @@
 -- All trials, one after the other: what is decided so far is part of document 01's procedure, whatever the rest comes to.
 -- Assumes nothing.
-use mathlib.Core.Path.{_≡_, refl, sym, ap, subst, _∙_}
-use mathlib.Core.Bool.{Bool, true, false}
-use mathlib.Core.List.{List, [], _∷_}
-use Prim.Native.Nat.{ℕ, zero, suc, _+_, _-_, _*_, _≤_, _<_}
+use mathlib.Core.Path.{_≡_, refl, _∙_}
+use mathlib.Core.Bool.{true, false}
+use mathlib.Core.List.{List, []}
+use Prim.Native.Nat.{ℕ, suc, _+_, _-_, _*_, _≤_}
 use native.Mathlib.Omega.{arith}
 use lib.ListN.{length}
-use Rattle.checker.specs.Lent.{series, ruleCount, rulesOf, tableOf, widthsOf}
-use Rattle.checker.specs.Demands.{most-guesses}
+use Rattle.checker.specs.Lent.{series, ruleCount}
 use Rattle.search.proofs.Limit.{answer-found, answer-none, count-limit}
-use Rattle.causes.specs.Cause.{Cause, CAUSE, GAVE-UP, Trims, decided, spared, needed, unknown}
+use Rattle.causes.specs.Cause.{Cause, CAUSE, GAVE-UP, decided, spared, needed, unknown}
 use Rattle.cause.specs.declared.Trial.{Trial}
-use Rattle.cause.specs.declared.Trimmed.{Trimmed}
 use Rattle.cause.specs.Listing.{keptIn, Standing}
-use Rattle.cause.specs.Trials.{Room, TrimsTo, Trying, Tries, dropped, kept-on, given-up, Trimming, Decides, all-decided, one-gave-up}
+use Rattle.cause.specs.Trials.{TrimsTo, Trying, Tries, dropped, kept-on, given-up, Trimming, Decides, all-decided, one-gave-up}
 
 -- n rules are not decided, k are kept, and so many guesses were made
 pub record Going (ws bs : List ℕ) (limit first : ℕ) (l : List ℕ) (n k sum : ℕ) (m : List ℕ) : Type 0 where

@@ -1,27 +1,25 @@
 -- One trial: the rule taken out of the list, the search of the rest, and what is kept then.
 -- Assumes nothing.
-use mathlib.Core.Path.{_≡_, refl, sym, ap, subst, _∙_}
+use mathlib.Core.Path.{_≡_, refl, sym, ap, _∙_}
 use mathlib.Core.Bool.{true, false}
-use mathlib.Core.List.{List, [], _∷_, _++_, map}
+use mathlib.Core.List.{List, _∷_, _++_, map}
 use Prim.Native.Nat.{ℕ, zero, suc, _+_, _-_, _≤_, _<_}
 use native.Mathlib.Numerals.{add-one}
 use native.Mathlib.Omega.{arith}
 use native.Mathlib.Decide.{decLt}
 use lib.ListN.{length, take}
-use Rattle.words.specs.Table.{Table, at}
-use Rattle.rules.specs.Tight.{rule, Tight}
-use Rattle.checker.specs.Lent.{series, widthsOf, tableOf, ruleCount, ruleAt, rulesOf, wordCount}
+use Rattle.words.specs.Table.{at}
+use Rattle.rules.specs.Tight.{rule}
+use Rattle.checker.specs.Lent.{series, ruleCount, ruleAt, rulesOf, wordCount}
 use Rattle.checker.proofs.Series.{rule-at}
 use Rattle.tighten.specs.Memory.{tableIn, chosen}
 use Rattle.tighten.proofs.Calling.{series-same}
-use Rattle.search.specs.Search.{Outcome, found, none, gave-up, Search}
 use Rattle.searcher.specs.declared.Answer.{Answer}
 use Rattle.searcher.specs.declared.Answer.the-variants.{Found, Nothing, GaveUp}
 use Rattle.searcher.specs.Searching.{outcomeOf}
 use Rattle.searcher.specs.Starting.{Asked, Sought}
 use Rattle.causes.specs.Cause.{trial}
-use Rattle.cause.specs.declared.Trial.{Trial}
-use Rattle.cause.specs.Listing.{keptIn, Standing, Removed, Inserted}
+use Rattle.cause.specs.Listing.{keptIn, Removed, Inserted}
 use Rattle.cause.specs.Trials.{TriedFor, Trying, Left, Tries, dropped, kept-on, given-up}
 use Rattle.cause.proofs.Lists.{series-add, series-take, series-map}
 

@@ -3,7 +3,7 @@
 use mathlib.Core.Path.{_≡_}
 use mathlib.Core.Bool.{true, false}
 use mathlib.Core.List.{List, [], _∷_}
-use Prim.Native.Nat.{ℕ, suc, _+_, _*_, _≤_, _<_}
+use Prim.Native.Nat.{ℕ, suc, _+_, _≤_}
 use lib.ListN.{length}
 use Rattle.rules.specs.ProperProblem.{ProperProblem}
 use Rattle.checker.specs.Lent.{widthsOf, tableOf, ruleCount, rulesOf}

@@ -1,6 +1,6 @@
 -- What stays in lent memory while a table is searched: the list of rules, the copy, the trail.
 -- Assumes nothing.
-use mathlib.Core.Path.{_≡_, refl, sym, ap, _∙_}
+use mathlib.Core.Path.{_≡_, ap, _∙_}
 use mathlib.Core.Logic.{inl, inr}
 use mathlib.Core.List.{List}
 use Prim.Native.Nat.{ℕ, _+_, _-_, _*_, _≤_, _<_}
@@ -9,7 +9,6 @@ use native.Mathlib.Decide.{decLt}
 use lib.ListN.{length}
 use Rattle.words.specs.Table.{at}
 use Rattle.rules.specs.Tight.{Rule, rule}
-use Rattle.checker.specs.Lent.{ruleCount}
 use Rattle.tighten.specs.Memory.{tableIn, chosen, Outside}
 use Rattle.tighten.specs.Ready.{Listed}
 use Rattle.tighten.proofs.Calling.{series-same}

@@ -1,30 +1,29 @@
 -- One table: tightened, decided or not, and the guess made.
 -- Assumes nothing.
-use mathlib.Core.Path.{_≡_, refl, sym, ap, subst, _∙_}
+use mathlib.Core.Path.{_≡_, sym, ap, subst, _∙_}
 use mathlib.Core.Bool.{Bool, true, false}
-use mathlib.Core.Logic.{_≢_, inr}
+use mathlib.Core.Logic.{_≢_}
 use mathlib.Core.List.{List}
 use Prim.Native.Nat.{ℕ, _+_, _-_, _*_, _^_, _≤_, _<_}
 use native.Mathlib.Omega.{arith}
 use lib.ListN.{length, length-set}
 use lib.Seq.{getD-set-other}
-use Rattle.words.specs.Table.{Table, Inside, Guess, at, with0}
+use Rattle.words.specs.Table.{Inside, Guess, at}
 use Rattle.words.specs.Count.{openBelow}
 use Rattle.words.proofs.Tables.{self, inside-trans}
-use Rattle.rules.specs.Proper.{Proper}
 use Rattle.rules.specs.Tightening.{Widest}
 use Rattle.rules.proofs.Propers.{proper-narrower}
-use Rattle.checker.specs.Lent.{wordCount, widthsOf, rulesOf}
+use Rattle.checker.specs.Lent.{wordCount}
 use Rattle.tighten.specs.Memory.{tableIn}
-use Rattle.tighten.specs.Ready.{Settled, left}
+use Rattle.tighten.specs.Ready.{Settled}
 use Rattle.tighten.proofs.Memory.{low-at, high-at, lows, highs}
-use Rattle.trail.specs.Trail.{copied, undone, changes, Committed}
+use Rattle.trail.specs.Trail.{copied, changes, Committed}
 use Rattle.trail.proofs.Undoing.{undone-same}
 use Rattle.trail.proofs.Room.{room-left}
-use Rattle.search.specs.Search.{Search, conflict, settled, stopped}
+use Rattle.search.specs.Search.{conflict, settled, stopped}
 use Rattle.search.proofs.Solved.{proper-short}
 use Rattle.searcher.specs.declared.Answer.the-variants.{Found, Nothing, GaveUp}
-use Rattle.searcher.specs.Guessing.{copyIn, topAt, zeroAt, oneAt, Lowest, Fixable, firstOf}
+use Rattle.searcher.specs.Guessing.{copyIn, topAt, zeroAt, Lowest, Fixable, firstOf}
 use Rattle.searcher.specs.Searching.{TightIn, Frame, Begun, Searched, Guessed}
 use Rattle.searcher.proofs.Tables.{table-same, copy-low, copy-high, copy-as}
 use Rattle.searcher.proofs.Guesses.{first-table, lowest-done, lowest-fixable, lowest-guess}

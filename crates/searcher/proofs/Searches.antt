@@ -3,25 +3,22 @@
 use mathlib.Core.Path.{_≡_, refl, sym, ap, subst, _∙_}
 use mathlib.Core.Logic.{_≢_}
 use mathlib.Core.List.{List}
-use Prim.Native.Nat.{ℕ, suc, _+_, _-_, _*_, _^_, _≤_, _<_}
+use Prim.Native.Nat.{ℕ, suc, _+_, _-_, _≤_, _<_}
 use native.Mathlib.Numerals.{add-one}
 use native.Mathlib.Omega.{arith}
 use lib.ListN.{length}
-use Rattle.words.specs.Bits.{bit, _⊑_}
-use Rattle.words.specs.Table.{Table, Inside, Guess, at, with0, with1}
+use Rattle.words.specs.Bits.{bit}
+use Rattle.words.specs.Table.{Table, Inside, at}
 use Rattle.words.specs.Count.{openBelow}
-use Rattle.words.proofs.Tables.{self, inside-trans, in-reach}
+use Rattle.words.proofs.Tables.{self, in-reach}
 use Rattle.words.proofs.Fixing.{inside0, inside1}
 use Rattle.rules.specs.Tight.{Tight}
 use Rattle.rules.specs.Proper.{Proper}
-use Rattle.rules.specs.Tightening.{Widest}
 use Rattle.rules.proofs.Propers.{proper-inside, proper-narrower}
 use Rattle.checker.specs.Lent.{wordCount, widthsOf, rulesOf}
 use Rattle.tighten.specs.Memory.{tableIn}
-use Rattle.tighten.specs.Ready.{Ready}
-use Rattle.tighten.proofs.Memory.{lows, highs}
 use Rattle.trail.specs.Trail.{RolledBack}
-use Rattle.search.specs.Search.{Outcome, found, none, gave-up, Search, first, second, ends-found, ends-gave-up}
+use Rattle.search.specs.Search.{found, none, Search, first, second, ends-found, ends-gave-up}
 use Rattle.search.proofs.Falls.{search-falls}
 use Rattle.search.proofs.Limit.{answer-none, count-limit}
 use Rattle.search.proofs.Solved.{proper-short}

@@ -1,16 +1,14 @@
 -- The search of a problem's own table: the table loaded, the copy made of it, and room on the trail for all its open bits.
 -- Assumes nothing.
-use mathlib.Core.Path.{_≡_, refl, sym, ap, subst, _∙_}
-use mathlib.Core.Logic.{inl, inr}
+use mathlib.Core.Path.{_≡_, sym, ap, subst, _∙_}
+use mathlib.Core.Logic.{inl}
 use mathlib.Core.List.{List}
 use Prim.Native.Nat.{ℕ, zero, suc, _+_, _*_, _≤_, _<_}
 use native.Mathlib.Nat.{zero-add}
 use native.Mathlib.Omega.{arith}
 use lib.ListN.{length}
 use Rattle.words.specs.Table.{Table, at}
-use Rattle.words.specs.Count.{openBelow}
 use Rattle.rules.specs.Tight.{Tight}
-use Rattle.rules.specs.Proper.{Proper}
 use Rattle.rules.proofs.Propers.{proper-inside, bitsBelow, open-bits}
 use Rattle.checker.specs.Lent.{wordCount, widthsOf, tableOf, rulesOf, loAt, hiAt}
 use Rattle.checker.proofs.Series.{length-series, lo-at, hi-at}
@@ -20,7 +18,7 @@ use Rattle.search.specs.Search.{Search}
 use Rattle.search.proofs.Solved.{width-most}
 use Rattle.searcher.specs.declared.Answer.{Answer}
 use Rattle.searcher.specs.Guessing.{copyIn}
-use Rattle.searcher.specs.Searching.{outcomeOf, TightIn, Begun, Searched}
+use Rattle.searcher.specs.Searching.{outcomeOf, Begun, Searched}
 use Rattle.searcher.specs.Starting.{Asked, Sought}
 use Rattle.searcher.proofs.Tables.{table-as, copy-as}
 use Rattle.searcher.proofs.Frames.{chosen-kept, listed-kept}

@@ -1,6 +1,6 @@
 -- Numbers, places and counts of answers are small, so that one number holds them.
 -- Assumes nothing.
-use mathlib.Core.Path.{_≡_, refl, sym, subst, _∙_}
+use mathlib.Core.Path.{_≡_, subst}
 use mathlib.Core.Bool.{Bool, true, false}
 use mathlib.Core.List.{List}
 use Prim.Native.Nat.{ℕ, _≤_, _<_}
@@ -10,9 +10,9 @@ use lib.ListN.{length}
 use Rattle.checker.specs.declared.Checked.{Checked}
 use Rattle.checker.specs.declared.Checked.the-variants.{Ok, Refused}
 use Rattle.checker.specs.Lent.{wordCount, ruleCount}
-use Rattle.checker.specs.Demands.{Demand, SIZE, WIDTH, TABLE, KIND, FIELD, FIT, LIMIT, number, place, Before, by-phase, Sized}
+use Rattle.checker.specs.Demands.{Demand, SIZE, WIDTH, TABLE, KIND, FIELD, FIT, LIMIT, number, place, by-phase, Sized}
 use Rattle.checker.specs.Refusal.{asks, _then_, refusalWith}
-use Rattle.checker.specs.Promise.{FirstUnmet, Right, ok, refused}
+use Rattle.checker.specs.Promise.{FirstUnmet, Right, refused}
 use Rattle.checker.proofs.Right.{check-right}
 use Rattle.checker.proofs.Faults.{unmet-there}
 use Rattle.search.proofs.Limit.{answer-found, answer-none, count-limit}

@@ -1,18 +1,16 @@
 -- The call's own steps: what is not refused is a proper problem with room, and what the search comes to is the answer.
 -- Assumes nothing.
-use mathlib.Core.Path.{_≡_, refl, sym, ap, subst, _∙_}
-use mathlib.Core.Bool.{Bool, true, false}
+use mathlib.Core.Path.{_≡_, sym, _∙_}
+use mathlib.Core.Bool.{true}
 use mathlib.Core.List.{List}
-use Prim.Native.Nat.{ℕ, _+_, _≤_, _<_}
+use Prim.Native.Nat.{ℕ, _≤_, _<_}
 use native.Mathlib.Omega.{arith}
 use lib.Dec.{leb}
 use lib.ListN.{length}
 use borrow.Author.Tests.{le-leb, lt-leb, leb-true}
-use Rattle.words.specs.Table.{Table, at}
-use Rattle.rules.specs.Tight.{Tight}
-use Rattle.checker.specs.declared.Checked.{Checked}
+use Rattle.words.specs.Table.{at}
 use Rattle.checker.specs.declared.Checked.the-variants.{Ok, Refused}
-use Rattle.checker.specs.Lent.{wordCount, widthsOf, tableOf, ruleCount, rulesOf}
+use Rattle.checker.specs.Lent.{wordCount, ruleCount}
 use Rattle.checker.specs.Demands.{SIZE}
 use Rattle.checker.specs.Refusal.{asks, _then_, refusalWith}
 use Rattle.checker.specs.Promise.{Fine}
@@ -21,7 +19,6 @@ use Rattle.checker.proofs.Right.{ok-fine}
 use Rattle.tighten.specs.Memory.{tableIn, Numbered, Cleared}
 use Rattle.tighten.proofs.Calling.{all-chosen, all-listed}
 use Rattle.tighten.proofs.Memory.{low-at}
-use Rattle.search.specs.Search.{Outcome, found, none, gave-up, Search}
 use Rattle.searcher.specs.declared.Answer.{Answer}
 use Rattle.searcher.specs.declared.Answer.the-variants.{Found, Nothing, GaveUp}
 use Rattle.searcher.specs.Searching.{outcomeOf}

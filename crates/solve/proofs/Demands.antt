@@ -1,35 +1,31 @@
 -- The user's demands, as theorems about the call `solve` itself: whatever it promises of an answer x, a model and work memory.
 -- Assumes nothing.
 use mathlib.Core.Path.{_≡_, refl, sym, ap, subst, _∙_}
-use mathlib.Core.Logic.{_≢_, _⊎_, inl, inr}
 use mathlib.Core.List.{List}
-use Prim.Native.Nat.{ℕ, suc, _^_, _≤_, _<_}
+use Prim.Native.Nat.{ℕ, suc, _≤_, _<_}
 use native.Mathlib.Omega.{arith}
 use native.Mathlib.Decide.{decLe}
 use lib.ListN.{length, take, length-take}
 use lib.Seq.{ext-getD, getD-take}
 use Rattle.words.specs.Table.{Table, at}
-use Rattle.words.specs.Count.{openBelow}
 use Rattle.rules.specs.Tight.{Tight, AllHold}
 use Rattle.rules.specs.Proper.{Proper}
 use Rattle.rules.specs.Tightening.{Widest, Conflict}
-use Rattle.rules.specs.Inputs.{Inputs}
-use Rattle.checker.specs.declared.Checked.{Checked}
 use Rattle.checker.specs.declared.Checked.the-variants.{Refused}
 use Rattle.checker.specs.Lent.{wordCount, widthsOf, tableOf, rulesOf, loAt}
 use Rattle.checker.proofs.Series.{length-series}
 use Rattle.tighten.specs.Memory.{Cleared}
 use Rattle.search.specs.Settings.{First, Without}
-use Rattle.search.specs.Search.{Outcome, found, none, gave-up, count, Search}
+use Rattle.search.specs.Search.{Outcome, found, none, gave-up, count}
 use Rattle.search.specs.Guesses.{Answers, answers-found, answers-none, Guesses}
 use Rattle.search.specs.Ceiling.{Ceiling}
 use Rattle.search.proofs.Limit.{answer-found, answer-none}
-use Rattle.search.proofs.Outcomes.{found-not-none, found-not-gave-up, none-not-gave-up}
-use Rattle.search.proofs.Problem.{outcome-right, gave-up-just, conflict-no-guess, count-below, limit-reached}
+use Rattle.search.proofs.Outcomes.{found-not-none, none-not-gave-up}
+use Rattle.search.proofs.Problem.{outcome-right, gave-up-just, conflict-no-guess}
 use Rattle.search.proofs.TheCeiling.{count-ceiling, ceiling-reached}
 use Rattle.solve.specs.declared.Solved.{Solved}
 use Rattle.solve.specs.declared.Solved.the-variants as answer
-use Rattle.solve.specs.Promise.{refusalHere, Given, Stored, Comes, Solving, refused, found-first, found-none, gave-up-at}
+use Rattle.solve.specs.Promise.{refusalHere, Given, Comes, Solving, refused, found-first, found-none, gave-up-at}
 use Rattle.solve.specs.Promise.{Answered, reached-found, reached-none, not-reached}
 use Rattle.solve.proofs.Calling.{model-room, fine}
 use Rattle.solve.proofs.Once.{comes-once}

@@ -1,6 +1,6 @@
 -- Two results that the promise of `solve` allows are equal: the answer, every number of the model, and every number of work memory.
 -- Assumes nothing.
-use mathlib.Core.Path.{_≡_, refl, sym, ap, _∙_}
+use mathlib.Core.Path.{_≡_, refl, ap}
 use mathlib.Core.List.{List}
 use Prim.Native.Nat.{ℕ}
 use native.Mathlib.Omega.{arith}
@@ -8,14 +8,14 @@ use Rattle.words.specs.Table.{at}
 use Rattle.rules.specs.Tight.{Tight}
 use Rattle.checker.specs.declared.Checked.{Checked}
 use Rattle.checker.specs.declared.Checked.the-variants.{Ok, Refused}
-use Rattle.checker.specs.Lent.{widthsOf, tableOf, rulesOf}
+use Rattle.checker.specs.Lent.{widthsOf, rulesOf}
 use Rattle.tighten.proofs.Once.{cleared-once}
 use Rattle.search.specs.Search.{Outcome}
 use Rattle.search.proofs.Outcomes.{found-not-none, found-not-gave-up, none-not-gave-up}
 use Rattle.search.proofs.Unique.{one-outcome}
 use Rattle.solve.specs.declared.Solved.{Solved}
 use Rattle.solve.specs.declared.Solved.the-variants as answer
-use Rattle.solve.specs.Promise.{refusalHere, Given, Comes, Solving, refused, found-first, found-none, gave-up-at}
+use Rattle.solve.specs.Promise.{Comes, Solving, refused, found-first, found-none, gave-up-at}
 use Rattle.solve.proofs.Storing.{stored-once}
 
 -- what is refused is not given

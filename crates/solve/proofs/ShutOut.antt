@@ -1,27 +1,27 @@
 -- Solvers that the promise of `solve` shuts out, each by a problem where it does not allow their answer: one that refuses everything, that answers
 -- GAVE UP or NONE each time, that leaves the model untouched, that obeys the first rule alone, that invents its count.
 -- Assumes nothing.
-use mathlib.Core.Path.{_≡_, refl, sym, ap, subst, _∙_}
+use mathlib.Core.Path.{_≡_, refl, sym, ap, _∙_}
 use mathlib.Core.Logic.{_≢_}
 use mathlib.Core.List.{List, [], _∷_}
-use Prim.Native.Nat.{ℕ, suc, _≤_, _<_}
+use Prim.Native.Nat.{ℕ, _≤_}
 use native.Mathlib.Omega.{arith}
 use lib.ListN.{length}
 use Rattle.words.specs.Table.{at}
 use Rattle.rules.specs.Kinds.{kindOf}
 use Rattle.rules.specs.Tight.{Tight}
 use Rattle.rules.proofs.Steps.{tightened}
-use Rattle.checker.specs.declared.Checked.the-variants.{Ok, Refused}
-use Rattle.checker.specs.Lent.{series, wordCount, widthsOf, tableOf, rulesOf}
+use Rattle.checker.specs.declared.Checked.the-variants.{Refused}
+use Rattle.checker.specs.Lent.{series, widthsOf, tableOf, rulesOf}
 use Rattle.checker.specs.Tests.{sized, areFields, isFitting}
 use Rattle.checker.specs.Refusal.{refusalWith, refusal, firstOf, wordRefusal, ruleRefusal}
-use Rattle.search.specs.Search.{Outcome, found, none, gave-up}
+use Rattle.search.specs.Search.{Outcome, found}
 use Rattle.search.proofs.Outcomes.{found-not-none, found-not-gave-up}
 use Rattle.search.proofs.Unique.{one-outcome}
 use Rattle.search.proofs.Solved.{solved, solved-right}
 use Rattle.solve.specs.declared.Solved.{Solved}
 use Rattle.solve.specs.declared.Solved.the-variants as answer
-use Rattle.solve.specs.Promise.{workLength, refusalHere, Given, Comes, Solving, refused, found-first, found-none, gave-up-at}
+use Rattle.solve.specs.Promise.{workLength, Given, Comes, Solving, refused, found-first, found-none, gave-up-at}
 use Rattle.solve.proofs.Calling.{fine, nothing-refused}
 
 -- an outcome of a given problem is the one computed

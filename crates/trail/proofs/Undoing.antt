@@ -1,15 +1,12 @@
 -- Entries of the trail taken back: they depend on the trail and the copy alone.
 -- Assumes nothing.
 use mathlib.Core.Path.{_≡_, refl, sym, ap, _∙_}
-use mathlib.Core.Bool.{Bool, true, false, cond, not}
-use mathlib.Core.Logic.{_⊎_, inl, inr}
+use mathlib.Core.Logic.{inr}
 use mathlib.Core.List.{List}
 use Prim.Native.Nat.{ℕ, zero, suc, _+_, _-_, _*_, _≤_, _<_}
 use native.Mathlib.Omega.{arith}
-use lib.Dec.{eqb}
-use lib.ListN.{length}
 use Rattle.words.specs.Table.{at}
-use Rattle.trail.specs.Trail.{place, was, copied, without, undone, CopyOnly, Back, RolledBack}
+use Rattle.trail.specs.Trail.{copied, without, undone, CopyOnly, Back, RolledBack}
 
 -- two memories with the same entries, and numbers that agree on the copy, give the same
 pub undone-same : (n b : ℕ) (l m : List ℕ) (f g : ℕ → ℕ) → ((i : ℕ) → 380 + 2 * b ≤ i → i < 380 + 2 * (b + n) → at l i ≡ at m i)

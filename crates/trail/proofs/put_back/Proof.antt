@@ -1,5 +1,4 @@
 -- `trail::put_back` meets its contract. Assumes nothing.
-use Prim.Native.Nat.{_+_, _*_, _<_}
 use native.Mathlib.Omega.{arith}
 use Rattle.trail.proofs.Moving.{put-back, put-nothing}
 use borrow.Author.Needs.{needs}

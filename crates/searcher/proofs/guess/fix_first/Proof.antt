@@ -1,5 +1,4 @@
 -- `searcher::guess::fix_first` meets its contract. Assumes nothing.
-use native.Mathlib.Omega.{arith}
 use Rattle.searcher.specs.Guessing.{firstOf}
 use Rattle.searcher.proofs.Guesses.{some-open, top-low, top-on}
 use borrow.Author.Needs.{needs}

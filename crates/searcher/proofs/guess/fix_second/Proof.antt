@@ -1,5 +1,4 @@
 -- `searcher::guess::fix_second` meets its contract. Assumes nothing.
-use native.Mathlib.Omega.{arith}
 use Rattle.searcher.specs.Guessing.{secondOf}
 use Rattle.searcher.proofs.Guesses.{some-open, top-low, top-off}
 use borrow.Author.Needs.{needs}
