@@ -129,6 +129,11 @@ It prints
 #define SIEVECREST_KIND_ULT 13
 #define SIEVECREST_KIND_NE 14
 
+/* The bits of an answer at which its parts begin. */
+#define SIEVECREST_COUNT_SHIFT 8   /* place, count, value, limit or length */
+#define SIEVECREST_MORE_SHIFT 40   /* entries, or words */
+#define SIEVECREST_RULES_SHIFT 48  /* rules */
+
 /* Places of a rule, for an explanation and the entries of its reason: 64 times place plus bit. */
 #define SIEVECREST_PLACE_R 0
 #define SIEVECREST_PLACE_A 1
@@ -206,17 +211,17 @@ static inline int sievecrest_is_refusal(uint64_t x) { return sievecrest_number(x
 
 /* Bits 8 to 39, by what they are: the place of a refusal; the guess count, or the sum, of FOUND, NONE, GAVE_UP, EXISTS and CAUSE; the value of a FORCED bit;
    the limit that was read; the bytes of the file written, or of the lines. */
-static inline uint32_t sievecrest_place(uint64_t x) { return (uint32_t)(x >> 8); }
-static inline uint32_t sievecrest_count(uint64_t x) { return (uint32_t)(x >> 8); }
-static inline uint32_t sievecrest_value(uint64_t x) { return (uint32_t)(x >> 8); }
-static inline uint32_t sievecrest_limit(uint64_t x) { return (uint32_t)(x >> 8); }
-static inline uint32_t sievecrest_length(uint64_t x) { return (uint32_t)(x >> 8); }
+static inline uint32_t sievecrest_place(uint64_t x) { return (uint32_t)(x >> SIEVECREST_COUNT_SHIFT); }
+static inline uint32_t sievecrest_count(uint64_t x) { return (uint32_t)(x >> SIEVECREST_COUNT_SHIFT); }
+static inline uint32_t sievecrest_value(uint64_t x) { return (uint32_t)(x >> SIEVECREST_COUNT_SHIFT); }
+static inline uint32_t sievecrest_limit(uint64_t x) { return (uint32_t)(x >> SIEVECREST_COUNT_SHIFT); }
+static inline uint32_t sievecrest_length(uint64_t x) { return (uint32_t)(x >> SIEVECREST_COUNT_SHIFT); }
 
 /* The number of entries of a reason or a cause. */
-static inline uint32_t sievecrest_entries(uint64_t x) { return (uint32_t)(x >> 40); }
+static inline uint32_t sievecrest_entries(uint64_t x) { return (uint32_t)(x >> SIEVECREST_MORE_SHIFT); }
 
 /* The numbers of words and of rules that were read. */
-static inline uint32_t sievecrest_words(uint64_t x) { return (uint32_t)(x >> 40 & 255); }
-static inline uint32_t sievecrest_rules(uint64_t x) { return (uint32_t)(x >> 48); }
+static inline uint32_t sievecrest_words(uint64_t x) { return (uint32_t)(x >> SIEVECREST_MORE_SHIFT & 255); }
+static inline uint32_t sievecrest_rules(uint64_t x) { return (uint32_t)(x >> SIEVECREST_RULES_SHIFT); }
 
 #endif

@@ -229,6 +229,18 @@ static void every_kind(void) {
     check(SIEVECREST_OK);
 }
 
+// The header's functions on answers as the calls above return them, each part at its greatest.
+static void taken_apart(void) {
+    uint64_t read = packed(SIEVECREST_OK, SIEVECREST_GUESSES, 32 + 256 * 252), caused = packed(SIEVECREST_CAUSE, 253000000, 252);
+    begin("answers taken apart", 0);
+    expect(sievecrest_limit(read) == SIEVECREST_GUESSES && sievecrest_words(read) == 32 && sievecrest_rules(read) == 252, "read", "limit, words or rules");
+    expect(sievecrest_count(caused) == 253000000 && sievecrest_entries(caused) == 252, "cause", "count or entries");
+    expect(sievecrest_value(packed(SIEVECREST_FORCED, 1, 192)) == 1, "explain", "value");
+    expect(sievecrest_length(packed(SIEVECREST_OK, 3584, 0)) == 3584, "write", "length");
+    expect(sievecrest_place(refused(SIEVECREST_FIT, 251)) == 251 && sievecrest_number(refused(SIEVECREST_FIT, 251)) == 8, "check", "number or place");
+    expect(sievecrest_is_refusal(refused(SIEVECREST_EMPTY, 0)) && !sievecrest_is_refusal(read), "check", "refusal or not");
+}
+
 static void all_boards(void) {
     board_a();
     board_b();
@@ -240,6 +252,7 @@ static void all_boards(void) {
     boards_i_j_k();
     further_boards();
     every_kind();
+    taken_apart();
 }
 
 #endif
