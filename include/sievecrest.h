@@ -9,7 +9,7 @@ What C must keep, since no call can test it:
   - a pointer is not null, is aligned for its type, and is valid for its whole length; it is not null for a length of 0 either;
   - no lent buffer overlaps another one;
   - while a call runs, nobody else writes what is lent to it, or reads what the call may write;
-  - a call that searches (solve, cause, advise) has about half a megabyte of stack: 477,168 bytes were seen on the deepest board.
+  - a call that searches (solve, cause, advise) has one megabyte of stack; docs/MANUAL.md says how much of it was seen in use.
 No call keeps anything after it has returned, so calls with buffers of their own may run at the same time.
 
 What comes back. Every call returns one number of 64 bits: the answer's own number in bits 0 to 7, below SIEVECREST_FOUND a refusal; in bits 8 to 39 its place,
