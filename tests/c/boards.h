@@ -184,37 +184,50 @@ static void boards_i_j_k(void) {
     explain(0, SIEVECREST_PLACE_A, 0, packed(SIEVECREST_FORCED, 0, 2), (uint16_t[]){0, 128});
 }
 
-// What the paper's boards do not show: a reason for a conflict, a trial that gives up, and counts and sizes that fill their bits.
-static void further_boards(void) {
-    static char lines[2400];
-    uint64_t zeros[32] = {0};
+// What the paper's boards do not show: a reason for a conflict, a trial that gives up, a count of more than 8 bits, and the most words and rules.
+
+static void conflict_explained(void) {
     begin("nothing above 3", 0);
     word(2, 3, 3), word(2, 0, 3);
     rule(SIEVECREST_KIND_ULT, 0, 0, 1, 0, 0);
     explain(0, SIEVECREST_PLACE_B, 0, packed(SIEVECREST_CONFLICT, 0, 2), (uint16_t[]){64, 65});
+}
+
+static void trial_gives_up(void) {
     begin("a trial gives up", 1);
     word(1, 0, 1), word(1, 0, 1), word(2, 0, 3);
     rule(SIEVECREST_KIND_ULT, 0, 0, 1, 0, 0);
     rule(SIEVECREST_KIND_ULT, 0, 1, 0, 0, 0);
     cause(packed(SIEVECREST_GAVE_UP, 1, 0), NULL);
     files("unsat 0\ncause unknown 1\n");
+}
+
+static void all_bits_open(void) {
+    static const uint64_t zeros[32];
     begin("2048 open bits", 2048);
     for (int i = 0; i < 32; i++) word(64, 0, ONES);
     solve(packed(SIEVECREST_FOUND, 2048, 0), zeros);
     board.limit = 2047;
     solve(packed(SIEVECREST_GAVE_UP, 2047, 0), NULL);
-    begin("32 words and 252 rules", SIEVECREST_GUESSES);
-    strcpy(lines, "sat 0\n");
-    for (int i = 0; i < 32; i++) {
-        word(1, 1, 1);
-        sprintf(lines + strlen(lines), "%d 1 1\n", i);
-    }
-    for (unsigned i = 0; i < 252; i++) rule(SIEVECREST_KIND_COPY, i % 32, i / 8, 0, 0, 0);
+}
+
+// 32 words of one bit, all 1, and 252 rules of one kind between them.
+static void full_board(const char *name, unsigned kind) {
+    begin(name, SIEVECREST_GUESSES);
+    for (int i = 0; i < 32; i++) word(1, 1, 1);
+    for (unsigned i = 0; i < 252; i++) rule(kind, i % 32, i / 8, kind == SIEVECREST_KIND_AND ? i % 7 : 0, 0, 0);
+}
+
+static void most_words_and_rules(void) {
+    static char lines[SIEVECREST_LINES_BYTES] = "sat 0\n";
+    for (int i = 0; i < 32; i++) sprintf(lines + strlen(lines), "%d 1 1\n", i);
+    full_board("32 words, 252 rules that hold", SIEVECREST_KIND_AND);
     files(lines);
     lend(0, SIEVECREST_FILE_BYTES);
     expect(call_write() == packed(SIEVECREST_OK, SIEVECREST_FILE_BYTES, 0), "write", "another length than the longest file's");
-    for (int i = 0; i < 252; i++) board.rules[6 * i] = SIEVECREST_KIND_NE, board.rules[6 * i + 3] = 1, board.rules[6 * i + 1] = 0;
+    full_board("32 words, 252 rules of which none holds", SIEVECREST_KIND_NOT);
     cause(packed(SIEVECREST_CAUSE, 0, 1), (uint16_t[]){0});
+    files("unsat 0\ncause 0 0\n");
 }
 
 // Part of board L: one rule of every kind, its k the last that fits.
@@ -250,7 +263,10 @@ static void all_boards(void) {
     boards_f_g();
     board_h();
     boards_i_j_k();
-    further_boards();
+    conflict_explained();
+    trial_gives_up();
+    all_bits_open();
+    most_words_and_rules();
     every_kind();
     taken_apart();
 }

@@ -3,7 +3,7 @@
 use crate::edge::Edge;
 use crate::library::{self, Advised, Read};
 use second::file;
-use second::fits::{Meter, TooLong};
+use second::fits::Meter;
 use second::lines;
 use second::paper::{check, Problem, Refused};
 
@@ -21,13 +21,7 @@ pub enum Known {
 pub fn known(bytes: &[u8]) -> Known {
     match file::read(bytes).and_then(|problem| check(&problem).map(|()| problem)) {
         Err(refused) => Known::Refused(refused),
-        Ok(problem) => {
-            let lines = match lines::advise(bytes, &mut Meter(SMALL)) {
-                Ok(lines) => Some(lines),
-                Err(TooLong) => None,
-            };
-            Known::Proper(problem, lines)
-        }
+        Ok(problem) => Known::Proper(problem, lines::advise(bytes, &mut Meter(SMALL)).ok()),
     }
 }
 

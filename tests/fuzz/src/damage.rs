@@ -1,5 +1,8 @@
 //! Files to be refused, and some that are not: proper files with faults of their records, their blocks, their sums and their lengths, and noise.
 
+// all faults have one type, also those that do not alter the length
+#![allow(clippy::ptr_arg)]
+
 use second::file::{seal, BLOCK};
 use second::random::Random;
 
@@ -184,11 +187,14 @@ fn some_bits(bytes: &mut Vec<u8>, random: &mut Random) {
 /// A byte that must be 0: of a word, of a rule, or anywhere after the head of a block.
 fn zeros(bytes: &mut Vec<u8>, random: &mut Random) {
     let (way, in_word, in_rule, anywhere) = (random.below(3), 1 + random.below(7) as usize, 6 + random.below(2) as usize, random.below(504) as usize);
-    match way {
-        0 => some_record(bytes, 1, random).map(|word| word[in_word] = 1),
-        1 => some_record(bytes, 2, random).map(|rule| rule[in_rule] = 1),
-        _ => Some(some_block(bytes, random)[HEAD + anywhere] |= 1),
+    let byte = match way {
+        0 => some_record(bytes, 1, random).map(|word| &mut word[in_word]),
+        1 => some_record(bytes, 2, random).map(|rule| &mut rule[in_rule]),
+        _ => Some(&mut some_block(bytes, random)[HEAD + anywhere]),
     };
+    if let Some(byte) = byte {
+        *byte |= 1;
+    }
 }
 
 /// Any byte of a block's head.
