@@ -256,7 +256,8 @@ def calls(tally, folder):
     status, out, _ = run([path])
     lines = out.decode(errors="replace").splitlines()
     counts = re.fullmatch(r"(\d+) passed, (\d+) failed", lines[-1] if lines else "")
-    print("\n".join(lines[:-1][:40]), end="\n" if lines[1:] else "")
+    for line in lines[:-1][:40]:
+        print(line)
     tally.same(f"{path} ends", (status, bool(counts)), (0, True))
     if counts:
         tally.add(int(counts.group(1)), int(counts.group(2)))
