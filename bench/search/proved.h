@@ -2,21 +2,17 @@
 #ifndef PROVED_H
 #define PROVED_H
 #ifdef PROVED
+#include "../../include/sievecrest.h"
 #include "plain.h"
 #include <stdio.h>
 
-enum { WORK = 4608 };
-
-// A slice passes as a pointer and then its length. Lowest 8 bits of what comes back: 32 FOUND, 33 NONE, 34 GAVE UP, else a refusal; above them the count.
-uint64_t sievecrest_solve(const uint64_t *words, size_t words_len, const uint8_t *rules, size_t rules_len, uint32_t limit, uint64_t *model,
-                          size_t model_len, uint64_t *work, size_t work_len);
+enum { WORK = SIEVECREST_SOLVE_WORK };
 
 static uint64_t work[WORK];
 
 static solved proved_solve(const uint64_t *words, size_t nwords, const uint8_t *rules, size_t nrules, uint32_t limit, uint64_t *model) {
     uint64_t x = sievecrest_solve(words, 3 * nwords, rules, 6 * nrules, limit, model, nwords, work, WORK);
-    uint32_t number = (uint32_t)(x & 255);
-    return (solved){number < 32 ? 3 : number - 32, (uint32_t)(x >> 8)};
+    return (solved){sievecrest_is_refusal(x) ? 3 : sievecrest_number(x) - SIEVECREST_FOUND, sievecrest_count(x)};
 }
 
 // Whether the call left its work memory all zero.

@@ -3,17 +3,8 @@
 //! Without arguments it reads one block file on standard input and prints the lines of the adviser program; exit status 3 where that takes too long.
 //! `second make FOLDER [COUNT [SEED]]` writes boards of all sorts as block files, each with the lines that it must give.
 
-mod damage;
-mod file;
-mod fits;
-mod hand;
-mod lines;
-mod make;
-mod paper;
-mod random;
-mod search;
-
-use fits::Meter;
+use second::fits::{Meter, TooLong};
+use second::{file, lines, make};
 use std::io::Read;
 use std::process::exit;
 
@@ -40,7 +31,7 @@ fn main() {
             }
             match lines::advise(&bytes, &mut Meter(MOST_WORK)) {
                 Ok(lines) => print!("{lines}"),
-                Err(fits::TooLong) => fail("the board takes too long to go through; give one with fewer open bits or a lower limit", 3),
+                Err(TooLong) => fail("the board takes too long to go through; give one with fewer open bits or a lower limit", 3),
             }
         }
         Some("make") if arguments.len() >= 2 => {

@@ -120,7 +120,7 @@ fn shuffled(mut problem: Problem, random: &mut Random) -> Problem {
 }
 
 /// A proper board: small, wide with few open bits, wide with many, or with many words and rules.
-fn proper(random: &mut Random) -> Problem {
+pub fn proper(random: &mut Random) -> Problem {
     match random.below(10) {
         0..=2 => small(random),
         3..=5 => around_values(8, 8, &[1, 1, 2, 3, 4, 4], 90, random),
@@ -132,7 +132,7 @@ fn proper(random: &mut Random) -> Problem {
 }
 
 /// Many words and many rules, in files of up to seven blocks; only for files that are damaged.
-fn long(random: &mut Random) -> Problem {
+pub fn long(random: &mut Random) -> Problem {
     let words: Vec<Word> = (0..1 + random.below(32)).map(|_| around(random.pick(&[1, 2, 2, 3]), 0, 30, random)).collect();
     let rules = (0..random.below(253)).filter_map(|_| some_rule(&words, 1 + random.below(14) as u8, random)).collect();
     Problem { words, rules, limit: limit(random) }

@@ -1,0 +1,344 @@
+#!/usr/bin/env python3
+"""The callers of the library: the C header with its worked example, every call from C, the Rust wrapper, and every number that they share with the crates.
+
+tests/callers.py PROGRAM: PROGRAM is the adviser program, with which the wrapper's example is compared. Builds libsievecrest.a first; the environment variable
+SIEVECREST_LIB_DIR may name a folder that has one already. That the comparison of numbers can fail is tried on each number: altered in a copy of the header
+or of the wrapper it must be reported, and so must a number that is missing.
+"""
+import glob
+import os
+import re
+import shutil
+import subprocess
+import sys
+import textwrap
+import time
+
+from examples import damaged
+
+HEADER = "include/sievecrest.h"
+WORKED = "tests/c/worked.c"
+CALLS = "tests/c/calls.c"
+WRAPPER = "rust/src/numbers.rs"
+BUILT = "target/callers"
+STRICT = ["-Wall", "-Wextra", "-Werror", "-pedantic", "-Iinclude"]
+SECONDS = 900
+
+ANSWERS = "FOUND NONE GAVE_UP OK TIGHT CONFLICT FORCED FREE EXISTS CAUSE".split()
+KINDS = "COPY NOT AND OR XOR ADD ITE SLICE JOIN SHL SHR ULE ULT NE".split()
+# what the wrapper has under other names, in types of its own, or not at all
+NOT_WRAPPED = {"ADVISE_WORK", "READ_WORDS", "READ_RULES", "BLOCK_BYTES"} | {"KIND_" + x for x in KINDS} | {"PLACE_" + x for x in "RABS"}
+
+
+class Tally:
+    """What passed and what failed."""
+
+    def __init__(self):
+        self.passed = self.failed = 0
+
+    def add(self, passed, failed):
+        self.passed += passed
+        self.failed += failed
+
+    def same(self, name, got, wanted):
+        self.add(*((1, 0) if got == wanted else (0, 1)))
+        if got != wanted:
+            print(f"{name}: came {str(got)[:600]}, wanted {str(wanted)[:600]}", flush=True)
+
+
+def stop(what):
+    """Ends with one failure."""
+    print(f"tests/callers.py: {what}\n0 passed, 1 failed")
+    sys.exit(1)
+
+
+def progress(what):
+    print(f"callers: {what}", flush=True)
+
+
+def text_of(path):
+    try:
+        with open(path, encoding="utf-8") as file:
+            return file.read()
+    except OSError as error:
+        stop(f"{path} cannot be read: {error.strerror}; restore it")
+
+
+def run(command, **more):
+    """Exit status, standard output and standard error of a command, as bytes; a status that says so where it does not end."""
+    try:
+        done = subprocess.run(command, capture_output=True, timeout=SECONDS, check=False, **more)
+    except subprocess.TimeoutExpired:
+        return f"no end within {SECONDS} s", b"", b""
+    return done.returncode, done.stdout, done.stderr
+
+
+# ---- numbers
+
+
+def constant(name):
+    return rf"^(?:pub )?const {name}: \w+ = (\d+);"
+
+
+def definition(name):
+    return rf"^{name} = (\d+)$"
+
+
+def demand(name):
+    return rf"^number \(?{name}\b[^=]*= (\d+)$"
+
+
+def places():
+    """Where each number stands in the crates: its name, a file or several, and the text around it."""
+    for name in ANSWERS:
+        yield name, "crates/sievecrest/src/*.rt", constant(name)
+        yield name, "crates/sievecrest/specs/*.antt", definition(name.replace("_", "-"))
+    for name in "SIZE WIDTH TABLE KIND FIELD FIT LIMIT".split():
+        yield name, "crates/checker/src/lib.rt", constant(name)
+        yield name, "crates/checker/specs/Demands.antt", demand(name)
+    for name in "SIZE CHECK LAYOUT".split():
+        yield name, "crates/reader/src/lib.rt", constant(name)
+    yield "SIZE", "crates/writer/src/lib.rt", constant("SIZE")
+    yield "CHECK", "crates/blocks/specs/File.antt", r"^    check : .* → Fault f (\d+) i$"
+    yield "LAYOUT", "crates/blocks/specs/File.antt", r"^    (?:layout|last) : .* → Fault f (\d+) i$"
+    yield "ASK", "crates/explain/src/lib.rt", constant("ASK")
+    yield "EMPTY", "crates/cause/src/lib.rt", r"kept == 0 \{\s*return Caused::Refused\((\d+), 0\)"
+    for name in "STRIDE FIELDS".split():
+        for crate in "checker reader writer report".split():
+            yield name, f"crates/{crate}/src/lib.rt", constant(name)
+        yield name, "crates/checker/specs/Lent.antt", definition(name.lower())
+    for name in "WORDS RULES GUESSES".split():
+        yield name, "crates/checker/src/lib.rt", constant(name)
+    yield "WORDS", "crates/rules/specs/ProperProblem.antt", definition("most-words")
+    yield "RULES", "crates/rules/specs/ProperProblem.antt", definition("most-rules")
+    yield "GUESSES", "crates/checker/specs/Demands.antt", definition("most-guesses")
+    for name in "TIGHTEN SOLVE CAUSE".split():
+        yield name + "_WORK", f"crates/{name.lower()}/src/lib.rt", constant("WORK")
+        yield name + "_WORK", f"crates/{name.lower()}/specs/Promise.antt", definition("workLength")
+    yield "REASON_ENTRIES", "crates/explain/src/lib.rt", constant("ENTRIES")
+    yield "REASON_ENTRIES", "crates/explain/specs/Promise.antt", definition("entries")
+    yield "LINES_BYTES", "crates/report/src/lib.rt", constant("MOST")
+    yield "LINES_BYTES", "crates/report/specs/Printed.antt", definition("most")
+    yield "BLOCK_BYTES", "crates/blocks/specs/File.antt", r"^blockAt f i = part f \(\d+ \* i\) (\d+)$"
+    for name in "RABS":
+        yield "PLACE_" + name, "crates/reasons/specs/Reason.antt", definition("placeNo " + name)
+
+
+def listed(tally, path, pattern):
+    """The kinds in the order in which a file lists them."""
+    names = re.findall(pattern, text_of(path), re.M)
+    tally.same(f"kinds of {path}", names, KINDS)
+
+
+def number_at(tally, name, path, pattern):
+    """The one number that stands in a file, or in several, within such a text; 0, and a failure, where there is none or more than one."""
+    found = {int(x) for file in sorted(glob.glob(path)) for x in re.findall(pattern, text_of(file), re.M)}
+    tally.same(f"{path} has one number {name}", len(found), 1)
+    return found.pop() if len(found) == 1 else 0
+
+
+def bit_of(tally, name, factor):
+    """The bit at which a part of an answer begins, from the number that it is multiplied by."""
+    bit = max(factor.bit_length() - 1, 0)
+    tally.same(f"the factor of {name} is a power of 2", factor, 1 << bit)
+    return bit
+
+
+def shifts(tally):
+    """The bits at which count, entries or words, and rules begin."""
+    path = "crates/sievecrest/specs/Packed.antt"
+    count = number_at(tally, "count", path, r"^packed p = p \.number \+ (\d+) \* p \.count \+ \d+ \* p \.more$")
+    more = number_at(tally, "more", path, r"^packed p = p \.number \+ \d+ \* p \.count \+ (\d+) \* p \.more$")
+    rules = more * number_at(tally, "rules", path, r"\(x \.words \+ (\d+) \* x \.rules\)$")
+    for name, factor in (("COUNT_SHIFT", count), ("MORE_SHIFT", more), ("RULES_SHIFT", rules)):
+        yield name, bit_of(tally, name, factor)
+
+
+def in_crates(tally):
+    """Every number by its name, read from the crates; where one stands in several files, they are compared with each other."""
+    wanted = {}
+    for name, path, pattern in places():
+        number = number_at(tally, name, path, pattern)
+        tally.same(f"{name} of {path}", number, wanted.setdefault(name, number))
+    listed(tally, "crates/rules/specs/Kinds.antt", r"(?:op|rel) ([A-Z]+) ∷")
+    listed(tally, "crates/checker/src/rows.rt", r"^    \[[\d, ]+\], // ([A-Z]+)$")
+    wanted.update(("KIND_" + kind, i) for i, kind in enumerate(KINDS, 1))
+    wanted.update(shifts(tally))
+    tally.same("advise asks for the work memory of cause", "work.len() < cause::WORK " in text_of("crates/report/src/lib.rt"), True)
+    wanted["ADVISE_WORK"] = wanted["CAUSE_WORK"]
+    wanted["READ_WORDS"] = wanted["STRIDE"] * wanted["WORDS"]
+    wanted["READ_RULES"] = wanted["FIELDS"] * wanted["RULES"]
+    wanted["FILE_BYTES"] = wanted["BLOCK_BYTES"] * number_at(tally, "blocks", "crates/blocks/specs/Edition.antt", r"^  blocks = (\d+);$")
+    return wanted
+
+
+# a number of the header, and of the wrapper: its name, then itself
+IN_HEADER = r"^#define SIEVECREST_(\w+) (\w+)\b"
+IN_WRAPPER = r"^pub const (\w+): \w+ = (\w+);"
+
+
+def differences(text, pattern, wanted, spared=frozenset()):
+    """The names whose number in a text is another one, is said twice or is nowhere in the crates, or which are missing and not spared."""
+    given = {}
+    for name, number in re.findall(pattern, text, re.M):
+        given.setdefault(name, []).append(number.replace("_", ""))
+    return [name for name in sorted(given.keys() | wanted.keys() - spared) if given.get(name) != [str(wanted.get(name))]]
+
+
+def altered(text, match, spared):
+    """Copies of a text with a number that is one more, that is said twice, and that is missing where it may not be."""
+    yield text[: match.start(2)] + str(int(match.group(2).replace("_", "")) + 1) + text[match.end(2) :]
+    yield text[: match.end()] + "\n" + match.group() + text[match.end() :]
+    if match.group(1) not in spared:
+        yield text[: match.start()] + text[match.end() :]
+
+
+def compare_numbers(tally, path, pattern, wanted, spared=frozenset()):
+    """The numbers of the header or the wrapper are those of the crates, and none could be another one unseen."""
+    text = text_of(path)
+    tally.same(f"numbers of {path} that are not those of the crates", differences(text, pattern, wanted, spared), [])
+    for match in re.finditer(pattern, text, re.M):
+        name = match.group(1)
+        for copy in altered(text, match, spared):
+            tally.same(f"{name} altered in a copy of {path} is reported", name in differences(copy, pattern, wanted, spared), True)
+
+
+def numbers(tally):
+    progress("every number of the header and of the wrapper beside those of the crates")
+    wanted = in_crates(tally)
+    compare_numbers(tally, HEADER, IN_HEADER, wanted)
+    compare_numbers(tally, WRAPPER, IN_WRAPPER, wanted, NOT_WRAPPED)
+
+
+# ---- C
+
+
+def library():
+    """The folder of libsievecrest.a, which is built unless one is named."""
+    named = os.environ.get("SIEVECREST_LIB_DIR")
+    if named is None:
+        if shutil.which("rt") is None:
+            stop("rt is missing: install the Rattle kit named in toolchain.txt and put its bin folder on PATH")
+        progress("proving and building libsievecrest.a, which takes some minutes where little is proved yet")
+        if subprocess.run(["rt", "staticlib", "sievecrest"], check=False).returncode != 0:
+            stop("rt staticlib sievecrest fails; the messages above say why")
+    folder = os.path.abspath(named or "target/staticlib")
+    if not os.path.isfile(f"{folder}/libsievecrest.a"):
+        stop(f"there is no {folder}/libsievecrest.a; run rt staticlib sievecrest")
+    return folder
+
+
+def example():
+    """The worked example of the header's comment, and what it says that the example prints."""
+    match = re.search(r"which is tests/c/worked\.c:\n\n(.*?)\nIt prints\n\n(.*?)\*/", text_of(HEADER), re.S)
+    return [textwrap.dedent(x) for x in match.groups()] if match else ["", ""]
+
+
+def compiled(tally, compiler, source, name, folder):
+    """A C program built without a warning: its path."""
+    path = f"{BUILT}/{name}"
+    done = run([*compiler, *STRICT, "-o", path, source, "-x", "none", f"{folder}/libsievecrest.a"])
+    tally.same(f"{' '.join(compiler)} {source}", (done[0], done[2].decode(errors="replace")), (0, ""))
+    return path if done[0] == 0 else None
+
+
+def worked(tally, compiler, name, folder, printed):
+    path = compiled(tally, compiler, WORKED, name, folder)
+    if path:
+        tally.same(f"{path} prints", run([path]), (0, printed.encode(), b""))
+
+
+def calls(tally, folder):
+    """Every comparison of calls.c counts."""
+    path = compiled(tally, ["cc", "-std=c99", "-O2"], CALLS, "calls", folder)
+    if path is None:
+        return
+    status, out, _ = run([path])
+    lines = out.decode(errors="replace").splitlines()
+    counts = re.fullmatch(r"(\d+) passed, (\d+) failed", lines[-1] if lines else "")
+    for line in lines[:-1][:40]:
+        print(line)
+    tally.same(f"{path} ends", (status, bool(counts)), (0, True))
+    if counts:
+        tally.add(int(counts.group(1)), int(counts.group(2)))
+
+
+def from_c(tally, folder):
+    progress("the header, its worked example and every call from C")
+    os.makedirs(BUILT, exist_ok=True)
+    text, printed = example()
+    tally.same(f"{WORKED} is the example of {HEADER}", text_of(WORKED), text)
+    worked(tally, ["cc", "-std=c99"], "worked", folder, printed)
+    calls(tally, folder)
+    if shutil.which("c++"):
+        worked(tally, ["c++", "-std=c++11", "-x", "c++"], "worked-c++", folder, printed)
+    else:
+        progress("c++ is missing, so the header is not tried as C++; install the package g++ for that")
+
+
+# ---- Rust
+
+
+def cargo(tally, folder, *arguments):
+    """A cargo command on the wrapper, without a warning; what it prints."""
+    more = {"SIEVECREST_LIB_DIR": folder, "CARGO_TARGET_DIR": os.path.abspath("target/rust")}
+    status, out, said = run(["cargo", *arguments, "--release", "--offline"], cwd="rust", env={**os.environ, **more})
+    warned = "warning:" in said.decode(errors="replace")
+    if status != 0 or warned:
+        print((out + said).decode(errors="replace")[-4000:])
+    tally.same(f"cargo {' '.join(arguments)} in rust/: status, and whether it warns", (status, warned), (0, False))
+    return out.decode(errors="replace")
+
+
+def files():
+    """Block files: the examples, and each with faults, most of them with the sum mended."""
+    for path in sorted(glob.glob("examples/*.blocks")):
+        with open(path, "rb") as file:
+            data = file.read()
+        yield path, data
+        for at, by in ((0, 1), (1, 1), (2, 1), (4, 255), (6, 1), (8, 64), (8, 255), (9, 1), (16, 255), (31, 128), (511, 1)):
+            yield f"{path}, byte {at} changed by {by}", damaged(data, at, by)
+        end = data[-512:]
+        for at, by in ((8, 1), (10, 16), (11, 1), (12, 1)):
+            yield f"{path}, byte {at} of its end changed by {by}", data[:-512] + damaged(end, at, by)
+        for length in (0, 1, 511, len(data) - 512, len(data) - 1):
+            yield f"{path}, its first {length} bytes", data[:length]
+        for more in (b"\0", end, 7 * end):
+            yield f"{path}, {len(more)} bytes more", data + more
+
+
+def from_rust(tally, folder, program):
+    progress("the tests of the wrapper in rust/")
+    tests = cargo(tally, folder, "test")
+    counts = [tuple(map(int, x)) for x in re.findall(r"^test result: \w+\. (\d+) passed; (\d+) failed;", tests, re.M)]
+    tally.add(sum(x for x, _ in counts), sum(x for _, x in counts))
+    tally.same("tests were run in rust/", any(x for x, _ in counts), True)
+    progress("the wrapper's example beside the adviser program")
+    cargo(tally, folder, "build", "--example", "advise")
+    advise = os.path.abspath("target/rust/release/examples/advise")
+    if not os.access(advise, os.X_OK):
+        tally.same(f"{advise} is there", False, True)
+        return
+    for name, data in files():
+        tally.same(f"rust/examples/advise.rs on {name}", run([advise], input=data)[:2], run([program], input=data)[:2])
+
+
+def main():
+    begin = time.monotonic()
+    if len(sys.argv) != 2 or not os.access(sys.argv[1], os.X_OK):
+        stop("give the adviser program, proved and linked, as target/bin/advise")
+    for tool, package in (("cc", "gcc"), ("cargo", "cargo")):
+        if shutil.which(tool) is None:
+            stop(f"{tool} is missing; install the package {package}")
+    tally = Tally()
+    numbers(tally)
+    folder = library()
+    from_c(tally, folder)
+    from_rust(tally, folder, os.path.abspath(sys.argv[1]))
+    progress(f"{time.monotonic() - begin:.0f} s")
+    print(f"{tally.passed} passed, {tally.failed} failed")
+    return 1 if tally.failed or not tally.passed else 0
+
+
+if __name__ == "__main__":
+    sys.exit(main())
