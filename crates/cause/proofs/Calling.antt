@@ -5,19 +5,16 @@ use mathlib.Core.Bool.{true, false}
 use mathlib.Core.List.{List, []}
 use Prim.Native.Nat.{ℕ, _+_, _≤_, _<_}
 use native.Mathlib.Omega.{arith}
-use lib.Dec.{leb}
 use lib.ListN.{length}
-use borrow.Author.Tests.{le-leb, lt-leb, leb-true}
 use Rattle.words.specs.Table.{at}
 use Rattle.rules.proofs.Propers.{proper-inside}
 use Rattle.checker.specs.declared.Checked.{Checked}
 use Rattle.checker.specs.declared.Checked.the-variants.{Ok, Refused}
 use Rattle.checker.specs.Lent.{series, widthsOf, tableOf, ruleCount, ruleAt, rulesOf, wordCount}
-use Rattle.checker.specs.Demands.{SIZE}
-use Rattle.checker.specs.Refusal.{asks, _then_, refusalWith}
+use Rattle.checker.specs.Refusal.{refusalWith, room}
 use Rattle.checker.specs.Promise.{Fine}
-use Rattle.checker.proofs.Answers.{passes}
 use Rattle.checker.proofs.Right.{ok-fine}
+use Rattle.checker.proofs.Rooms.{too-short, enough, has-room}
 use Rattle.checker.proofs.Series.{length-series, series-at}
 use Rattle.tighten.specs.Memory.{tableIn, Numbered, Cleared}
 use Rattle.tighten.proofs.Calling.{all-chosen, all-listed}
@@ -32,7 +29,7 @@ use Rattle.cause.specs.declared.Caused.{Caused}
 use Rattle.cause.specs.declared.Caused.the-variants as answer
 use Rattle.cause.specs.declared.Trimmed.{Trimmed}
 use Rattle.cause.specs.Listing.{keptIn, Standing, Short, Held}
-use Rattle.cause.specs.Trials.{TrimsTo, Trimming, Decides, all-decided, one-gave-up}
+use Rattle.cause.specs.Trials.{TrimsTo, Trimming, TrialsEnd, all-decided, one-gave-up}
 use Rattle.cause.specs.Promise.{workLength, refusalHere, Given, Named, Entered, Causing, refused, exists-at, gave-up-at, caused-by, NoneFirst}
 
 -- ---- what is refused
@@ -40,22 +37,26 @@ use Rattle.cause.specs.Promise.{workLength, refusalHere, Given, Named, E
 module _ (limit : ℕ) (ws bs s l : List ℕ) where
   pub short-work : length l < workLength → Causing limit ws bs s l (answer.Refused 1 0) s l
   unfolding refusalHere
-  short-work h = refused {n = 1} {p = 0} (rw (lt-leb workLength (length l) h))
+  short-work h = refused (too-short workLength (length l) (room (ruleCount bs) (length s) (refusalWith limit ws bs)) h)
 
   pub short-list : workLength ≤ length l → length s < ruleCount bs → Causing limit ws bs s l (answer.Refused 1 0) s l
   unfolding refusalHere
-  short-list g h = refused {n = 1} {p = 0} (rw (le-leb workLength (length l) g, lt-leb (ruleCount bs) (length s) h))
+  short-list g h =
+      refused
+      (enough workLength (length l) (room (ruleCount bs) (length s) (refusalWith limit ws bs)) g
+      ∙ too-short (ruleCount bs) (length s) (refusalWith limit ws bs) h)
 
-  enough : workLength ≤ length l → ruleCount bs ≤ length s → refusalHere limit ws bs s l ≡ refusalWith limit ws bs
+  passed : workLength ≤ length l → ruleCount bs ≤ length s → refusalHere limit ws bs s l ≡ refusalWith limit ws bs
   unfolding refusalHere
-  enough g h = rw (le-leb workLength (length l) g, le-leb (ruleCount bs) (length s) h)
+  passed g h =
+      enough workLength (length l) (room (ruleCount bs) (length s) (refusalWith limit ws bs)) g ∙ enough (ruleCount bs) (length s) (refusalWith limit ws bs) h
 
   pub problem-refused : {n p : ℕ} → workLength ≤ length l → ruleCount bs ≤ length s → refusalWith limit ws bs ≡ Refused n p
       → Causing limit ws bs s l (answer.Refused n p) s l
-  problem-refused g h e = refused (enough g h ∙ e)
+  problem-refused g h e = refused (passed g h ∙ e)
 
   pub nothing-refused : workLength ≤ length l → ruleCount bs ≤ length s → refusalWith limit ws bs ≡ Ok → Given limit ws bs s l
-  nothing-refused g h e = record { passed = enough g h ∙ e }
+  nothing-refused g h e = record { passed = passed g h ∙ e }
 
 -- ---- what is not
 
@@ -63,18 +64,18 @@ pub not-both : {n p : ℕ} {x : Checked} → x ≡ Refused n p → x ≡ Ok → 
 not-both a b = let z : _≡_ {A = ℕ} 0 1 = cc in omega arith
 
 module _ {limit : ℕ} {ws bs s l : List ℕ} (given : Given limit ws bs s l) where
-  both : (leb workLength (length l) ≡ true) × ((asks SIZE (leb (ruleCount bs) (length s)) then refusalWith limit ws bs) ≡ Ok)
+  both : (workLength ≤ length l) × (room (ruleCount bs) (length s) (refusalWith limit ws bs) ≡ Ok)
   unfolding refusalHere
-  both = passes SIZE (leb workLength (length l)) (asks SIZE (leb (ruleCount bs) (length s)) then refusalWith limit ws bs) (given .passed)
+  both = has-room workLength (length l) (room (ruleCount bs) (length s) (refusalWith limit ws bs)) (given .passed)
 
-  rest : (leb (ruleCount bs) (length s) ≡ true) × (refusalWith limit ws bs ≡ Ok)
-  rest = passes SIZE (leb (ruleCount bs) (length s)) (refusalWith limit ws bs) (both .1)
+  rest : (ruleCount bs ≤ length s) × (refusalWith limit ws bs ≡ Ok)
+  rest = has-room (ruleCount bs) (length s) (refusalWith limit ws bs) (both .1)
 
   pub work-room : workLength ≤ length l
-  work-room = leb-true workLength (length l) (both .0)
+  work-room = both .0
 
   pub list-room : ruleCount bs ≤ length s
-  list-room = leb-true (ruleCount bs) (length s) (rest .0)
+  list-room = rest .0
 
   pub fine : Fine limit ws bs
   fine = ok-fine limit ws bs (rest .1)
@@ -139,7 +140,7 @@ module _ {limit : ℕ} {ws bs s l : List ℕ} {first : ℕ} (n : NoneFirst limit
       trimmed (n .nothing)
       (subst (λ m. Trims (widthsOf ws) (rulesOf bs) limit (tableOf ws) m [] first x) (sym (length-series (ruleCount bs) (ruleAt bs))) t)
 
-  module _ {r : Trimmed} {z : List ℕ} (d : Decides ws bs limit first k r z) where
+  module _ {r : Trimmed} {z : List ℕ} (d : TrialsEnd ws bs limit first k r z) where
     cleared-end : length z ≡ length k → {l′ : List ℕ} → Cleared z l′ → Cleared l l′
     cleared-end e x = record { size = x .size ∙ e ∙ y .size; zeros = x .zeros }
 
@@ -147,7 +148,7 @@ module _ {limit : ℕ} {ws bs s l : List ℕ} {first : ℕ} (n : NoneFirst limit
     pub gave-up-end : r .decided ≡ false → {l′ : List ℕ} → Cleared z l′ → Causing limit ws bs s l (answer.GaveUp (r .sum)) s l′
     gave-up-end e = go d
       where
-        go : Decides ws bs limit first k r z → {l′ : List ℕ} → Cleared z l′ → Causing limit ws bs s l (answer.GaveUp (r .sum)) s l′
+        go : TrialsEnd ws bs limit first k r z → {l′ : List ℕ} → Cleared z l′ → Causing limit ws bs s l (answer.GaveUp (r .sum)) s l′
         go (all-decided a b c t) x = absurd (let q : _≡_ {A = ℕ} 0 1 = cc (a, e) in omega arith)
         go (one-gave-up a b t) x = gave-up-at (n .given) (named t) (cleared-end b x)
 
@@ -156,7 +157,7 @@ module _ {limit : ℕ} {ws bs s l : List ℕ} {first : ℕ} (n : NoneFirst limit
       decided-as : (length z ≡ length k) × Standing bs z 0 (r .kept) × Named limit ws bs (CAUSE (keptIn z 0 (r .kept)) (r .sum))
       decided-as = go d
         where
-          go : Decides ws bs limit first k r z
+          go : TrialsEnd ws bs limit first k r z
               → (length z ≡ length k) × Standing bs z 0 (r .kept) × Named limit ws bs (CAUSE (keptIn z 0 (r .kept)) (r .sum))
           go (all-decided a b c t) = (b, c, named t)
           go (one-gave-up a b t) = absurd (let q : _≡_ {A = ℕ} 0 1 = cc (a, e) in omega arith)

@@ -3,7 +3,7 @@
 use mathlib.Core.Path.{_≡_, refl, _∙_}
 use mathlib.Core.Bool.{true, false}
 use mathlib.Core.List.{List, []}
-use Prim.Native.Nat.{ℕ, suc, _+_, _-_, _*_, _≤_}
+use Prim.Native.Nat.{ℕ, suc, _+_, _*_, _≤_}
 use native.Mathlib.Omega.{arith}
 use lib.ListN.{length}
 use Rattle.checker.specs.Lent.{series, ruleCount}
@@ -11,7 +11,7 @@ use Rattle.search.proofs.Limit.{answer-found, answer-none, count-limit}
 use Rattle.causes.specs.Cause.{Cause, CAUSE, GAVE-UP, decided, spared, needed, unknown}
 use Rattle.cause.specs.declared.Trial.{Trial}
 use Rattle.cause.specs.Listing.{keptIn, Standing}
-use Rattle.cause.specs.Trials.{TrimsTo, Trying, Tries, dropped, kept-on, given-up, Trimming, Decides, all-decided, one-gave-up}
+use Rattle.cause.specs.Trials.{TrimsTo, Trying, Tries, dropped, kept-on, given-up, Trimming, TrialsEnd, all-decided, one-gave-up}
 
 -- n rules are not decided, k are kept, and so many guesses were made
 pub record Going (ws bs : List ℕ) (limit first : ℕ) (l : List ℕ) (n k sum : ℕ) (m : List ℕ) : Type 0 where
@@ -63,14 +63,14 @@ module _ {ws bs l : List ℕ} {limit first : ℕ} (t : Trimming ws bs l limit fi
           })
           go (given-up a b c d) = absurd (let z : _≡_ {A = ℕ} 0 1 = cc (a, y) in omega arith)
 
-      pub going-gave-up : {kept : ℕ} → r .decided ≡ false → Decides ws bs limit first l (record { decided = false; sum = sum + r .count; kept = kept }) m′
+      pub going-gave-up : {kept : ℕ} → r .decided ≡ false → TrialsEnd ws bs limit first l (record { decided = false; sum = sum + r .count; kept = kept }) m′
       going-gave-up {kept} y = go s
         where
-          go : Tries ws bs limit n k m r m′ → Decides ws bs limit first l (record { decided = false; sum = sum + r .count; kept = kept }) m′
+          go : Tries ws bs limit n k m r m′ → TrialsEnd ws bs limit first l (record { decided = false; sum = sum + r .count; kept = kept }) m′
           go (dropped a b c d) = absurd (let z : _≡_ {A = ℕ} 0 1 = cc (a, y) in omega arith)
           go (kept-on a b c d) = absurd (let z : _≡_ {A = ℕ} 0 1 = cc (a, y) in omega arith)
           go (given-up a b c d) = one-gave-up refl (d ∙ g .size) (rw b (g .towards (GAVE-UP (sum + limit)) (unknown c)))
 
   pub going-end : {k sum : ℕ} {m : List ℕ} → Going ws bs limit first l 0 k sum m
-      → Decides ws bs limit first l (record { decided = true; sum = sum; kept = k }) m
+      → TrialsEnd ws bs limit first l (record { decided = true; sum = sum; kept = k }) m
   going-end {k} {sum} {m} g = all-decided refl (g .size) (g .standing) (g .towards (CAUSE (keptIn m 0 k) sum) decided)

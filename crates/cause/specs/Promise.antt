@@ -3,14 +3,12 @@
 use mathlib.Core.Path.{_≡_}
 use mathlib.Core.List.{List}
 use Prim.Native.Nat.{ℕ, _≤_, _<_}
-use lib.Dec.{leb}
 use lib.ListN.{length}
 use Rattle.words.specs.Table.{at}
 use Rattle.checker.specs.declared.Checked.{Checked}
 use Rattle.checker.specs.declared.Checked.the-variants.{Ok, Refused}
 use Rattle.checker.specs.Lent.{widthsOf, tableOf, ruleCount, rulesOf}
-use Rattle.checker.specs.Demands.{SIZE}
-use Rattle.checker.specs.Refusal.{asks, _then_, refusalWith}
+use Rattle.checker.specs.Refusal.{refusalWith, room}
 use Rattle.tighten.specs.Memory.{Cleared}
 use Rattle.search.specs.Search.{none}
 use Rattle.causes.specs.Cause.{Cause, EXISTS, CAUSE, GAVE-UP, Tried, Causes}
@@ -23,7 +21,7 @@ workLength = 5120
 
 -- refusal 1 for memory or a list that is too short, then the refusals of the problem and its limit
 unfoldable pub refusalHere : ℕ → List ℕ → List ℕ → List ℕ → List ℕ → Checked
-refusalHere limit ws bs s l = asks SIZE (leb workLength (length l)) then asks SIZE (leb (ruleCount bs) (length s)) then refusalWith limit ws bs
+refusalHere limit ws bs s l = room workLength (length l) (room (ruleCount bs) (length s) (refusalWith limit ws bs))
 
 -- nothing is refused
 pub record Given (limit : ℕ) (ws bs s l : List ℕ) : Type 0 where

@@ -56,7 +56,7 @@ pub record Trimming (ws bs l : List ℕ) (limit first : ℕ) : Type 0 where
   pub few : first ≤ most-guesses
 
 -- all were tried: the numbers kept stand first in the list; or one gave up
-pub data Decides (ws bs : List ℕ) (limit first : ℕ) (l : List ℕ) (r : Trimmed) (m : List ℕ) : Type 0 where
+pub data TrialsEnd (ws bs : List ℕ) (limit first : ℕ) (l : List ℕ) (r : Trimmed) (m : List ℕ) : Type 0 where
   all-decided : r .decided ≡ true → length m ≡ length l → Standing bs m 0 (r .kept)
-      → TrimsTo ws bs limit (ruleCount bs) [] first (CAUSE (keptIn m 0 (r .kept)) (r .sum)) → Decides ws bs limit first l r m
-  one-gave-up : r .decided ≡ false → length m ≡ length l → TrimsTo ws bs limit (ruleCount bs) [] first (GAVE-UP (r .sum)) → Decides ws bs limit first l r m
+      → TrimsTo ws bs limit (ruleCount bs) [] first (CAUSE (keptIn m 0 (r .kept)) (r .sum)) → TrialsEnd ws bs limit first l r m
+  one-gave-up : r .decided ≡ false → length m ≡ length l → TrimsTo ws bs limit (ruleCount bs) [] first (GAVE-UP (r .sum)) → TrialsEnd ws bs limit first l r m

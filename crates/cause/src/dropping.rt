@@ -2,7 +2,7 @@
 use crate::Trial;
 use crate::Trimmed;
 use crate::list;
-ghost use Rattle.cause.specs.Trials.{Trying, Tries, Trimming, Decides};
+ghost use Rattle.cause.specs.Trials.{Trying, Tries, Trimming, TrialsEnd};
 
 // The trial without rule n, where n rules below it are not decided yet and k are kept: it is kept where there are settings without it.
 fn attempt(work: &mut [u64], words: &[u64], rules: &[u8], n: usize, k: usize, limit: u64) -> Trial
@@ -35,7 +35,7 @@ fn attempt(work: &mut [u64], words: &[u64], rules: &[u8], n: usize, k: usize, li
 // All trials, after `first` guesses in the search of the whole problem.
 pub fn trim(work: &mut [u64], words: &[u64], rules: &[u8], limit: u64, first: u64) -> Trimmed
     requires { ⌜ Trimming (now words) (now rules) (now work) limit first ⌝ }
-    ensures { λ r. ⌜ Decides (now (words .entry)) (now (rules .entry)) limit first (now (work .entry)) r (now (work .exit)) ⌝ }
+    ensures { λ r. ⌜ TrialsEnd (now (words .entry)) (now (rules .entry)) limit first (now (work .entry)) r (now (work .exit)) ⌝ }
 {
     let mut sum = first;
     let mut kept = 0;

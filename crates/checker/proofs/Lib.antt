@@ -9,3 +9,5 @@ pub mod Orders
 pub mod Earlier
 pub mod Right
 pub mod Faults
+pub mod Deciding
+pub mod Rooms

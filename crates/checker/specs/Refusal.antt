@@ -42,3 +42,7 @@ refusal ws bs = asks SIZE (sized ws bs) then firstOf (wordCount ws) (wordRefusal
 
 unfoldable pub refusalWith : ℕ → List ℕ → List ℕ → Checked
 refusalWith limit ws bs = refusal ws bs then asks LIMIT (leb limit most-guesses)
+
+-- SIZE where fewer were lent than are needed, then the rest
+unfoldable pub room : ℕ → ℕ → Checked → Checked
+room needed lent y = asks SIZE (leb needed lent) then y

@@ -12,6 +12,7 @@ use Rattle.words.proofs.Order.{bit-lt}
 use Rattle.rules.specs.Kinds.{Place}
 use Rattle.rules.specs.Meaning.{Shape}
 use Rattle.rules.specs.Fits.{Span, Uses, Legal}
+use Rattle.checker.specs.Tests.{Decides, holds, fails}
 use Rattle.hull.specs.declared.Bounds.{Bounds}
 use Rattle.hull.specs.declared.Narrowed.{Narrowed}
 use Rattle.hull.specs.Narrowing.{loOf, hiOf, spanOf, Narrows}
@@ -20,17 +21,7 @@ use Rattle.reasons.proofs.One.{one-answer}
 use Rattle.explain.specs.declared.Said.{Said}
 use Rattle.explain.specs.declared.Said.the-variants as said
 use Rattle.explain.specs.declared.Question.{Question}
-use Rattle.explain.specs.Asking.{shapeIn, placeIn, answer, byHull, saidBy, Asks, Decides, holds, fails}
-
--- ---- what a decision says
-
-pub decided : {P : Type 0} {r : Bool} → Decides P r → r ≡ true → P
-decided (holds p) e = p
-decided (fails n) e = let z : _≡_ {A = ℕ} 0 1 = cc in absurd (omega arith)
-
-pub refuted : {P : Type 0} {r : Bool} → Decides P r → r ≡ false → ¬ P
-refuted (holds p) e = let z : _≡_ {A = ℕ} 0 1 = cc in absurd (omega arith)
-refuted (fails n) e = n
+use Rattle.explain.specs.Asking.{shapeIn, placeIn, answer, byHull, saidBy, Asks}
 
 -- ---- the answer by the hull
 

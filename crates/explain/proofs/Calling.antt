@@ -3,15 +3,14 @@
 use mathlib.Core.Path.{_≡_, refl, sym, ap, _∙_}
 use mathlib.Core.List.{List, []}
 use Prim.Native.Nat.{ℕ, _≤_, _<_}
-use native.Mathlib.Decide.{decLe}
 use native.Mathlib.Omega.{arith}
 use lib.ListN.{length}
-use borrow.Author.Tests.{le-leb, lt-leb}
 use Rattle.words.specs.Table.{at}
 use Rattle.checker.specs.declared.Checked.the-variants.{Ok, Refused}
 use Rattle.checker.specs.Lent.{ruleCount}
 use Rattle.checker.specs.Refusal.{refusal}
 use Rattle.checker.proofs.Right.{ok-fine, no-limit}
+use Rattle.checker.proofs.Rooms.{too-short, enough, has-room}
 use Rattle.hull.specs.declared.Bounds.{Bounds}
 use Rattle.hull.specs.Narrowing.{spanOf}
 use Rattle.reasons.specs.Says.{CONFLICT, FORCED, FREE, Says}
@@ -58,10 +57,6 @@ rule-refused n p j h = not-asked (λ a. omega (arith, a .there))
 -- ---- the refusals before the question
 
 module _ (ws bs l : List ℕ) (h : entries ≤ length l) where
-  here : refusalHere ws bs l ≡ refusal ws bs
-  unfolding refusalHere
-  here = rw (le-leb entries (length l) h)
-
   pub problem-taken : refusal ws bs ≡ Ok → Taken ws bs l
   problem-taken e =
       let fine = ok-fine 0 ws bs (sym (no-limit ws bs) ∙ e) in
@@ -70,27 +65,19 @@ module _ (ws bs l : List ℕ) (h : entries ≤ length l) where
 module _ (ws bs l : List ℕ) (n p j : ℕ) where
   pub short-refused : length l < entries → Explaining ws bs n p j l (explained.Refused 1 0) l
   unfolding refusalHere
-  short-refused h = refused {number = 1} {place = 0} (rw (lt-leb entries (length l) h))
+  short-refused h = refused (too-short entries (length l) (refusal ws bs) h)
 
   pub problem-refused : {number place : ℕ} → entries ≤ length l → refusal ws bs ≡ Refused number place
       → Explaining ws bs n p j l (explained.Refused number place) l
-  problem-refused h e = refused (here ws bs l h ∙ e)
+  unfolding refusalHere
+  problem-refused h e = refused (enough entries (length l) (refusal ws bs) h ∙ e)
 
   pub problem-judged : {r : Explained} {m : List ℕ} → entries ≤ length l → refusal ws bs ≡ Ok → Judged ws bs n p j l r m
       → Explaining ws bs n p j l r m
-  problem-judged h e d = judged (here ws bs l h ∙ e) d
+  unfolding refusalHere
+  problem-judged h e d = judged (enough entries (length l) (refusal ws bs) h ∙ e) d
 
 -- a problem that is not refused is proper
 pub here-taken : (ws bs l : List ℕ) → refusalHere ws bs l ≡ Ok → Taken ws bs l
 unfolding refusalHere
-here-taken ws bs l e = go (decLe entries (length l))
-  where
-    short : length l < entries → Ok ≡ Refused 1 0
-    short q = sym e ∙ rw (lt-leb entries (length l) q)
-
-    differs : Ok ≡ Refused 1 0 → ⊥
-    differs d = let z : _≡_ {A = ℕ} 0 1 = cc in omega arith
-
-    go : Dec (entries ≤ length l) → Taken ws bs l
-    go (yes h) = problem-taken ws bs l h (sym (here ws bs l h) ∙ e)
-    go (no h) = absurd (differs (short (omega arith)))
+here-taken ws bs l e = let (h, ok) = has-room entries (length l) (refusal ws bs) e in problem-taken ws bs l h ok

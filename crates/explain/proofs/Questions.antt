@@ -15,7 +15,8 @@ use Rattle.rules.specs.Meaning.{Shape}
 use Rattle.rules.specs.Fits.{Span, Uses}
 use Rattle.checker.specs.Rows.{usesField}
 use Rattle.explain.specs.Places.{last, placeOf}
-use Rattle.explain.specs.Asking.{OpenBit, Decides, holds, fails}
+use Rattle.checker.specs.Tests.{Decides, holds, fails}
+use Rattle.explain.specs.Asking.{OpenBit}
 use Rattle.explain.proofs.PlaceNumbers.{place-field}
 
 -- whether a place is used, read from the field of its word

@@ -55,8 +55,3 @@ pub record Asks (q : Question) (t : Bounds) : Type 0 where
   pub legal : Legal (shapeIn q) (spanOf t)
   pub used : Uses (shapeIn q) (placeIn q)
   pub small : q .bit < 64
-
--- a Bool that says whether P holds
-pub data Decides (P : Type 0) : Bool → Type 0 where
-  holds : P → Decides P true
-  fails : ¬ P → Decides P false

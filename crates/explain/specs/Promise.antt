@@ -3,7 +3,6 @@
 use mathlib.Core.Path.{_≡_}
 use mathlib.Core.List.{List}
 use Prim.Native.Nat.{ℕ, _≤_, _<_}
-use lib.Dec.{leb}
 use lib.ListN.{length}
 use Rattle.rules.specs.Kinds.{Place}
 use Rattle.rules.specs.Meaning.{Shape}
@@ -13,8 +12,8 @@ use Rattle.rules.specs.ProperProblem.{ProperProblem}
 use Rattle.checker.specs.declared.Checked.{Checked}
 use Rattle.checker.specs.declared.Checked.the-variants.{Ok, Refused}
 use Rattle.checker.specs.Lent.{widthsOf, tableOf, ruleCount, rulesOf}
-use Rattle.checker.specs.Demands.{SIZE, Sized}
-use Rattle.checker.specs.Refusal.{asks, _then_, refusal}
+use Rattle.checker.specs.Demands.{Sized}
+use Rattle.checker.specs.Refusal.{refusal, room}
 use Rattle.reasons.specs.Says.{Answer, CONFLICT, FORCED, FREE}
 use Rattle.reasons.specs.Reason.{Explains}
 use Rattle.explain.specs.declared.Explained.{Explained}
@@ -29,7 +28,7 @@ entries = 193
 
 -- refusal 1 for a list that is too short, then the refusals of the problem
 unfoldable pub refusalHere : List ℕ → List ℕ → List ℕ → Checked
-refusalHere ws bs l = asks SIZE (leb entries (length l)) then refusal ws bs
+refusalHere ws bs l = room entries (length l) (refusal ws bs)
 
 -- what comes back for an answer whose reason has c entries
 abbrev pub given : Answer → ℕ → Explained

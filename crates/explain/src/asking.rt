@@ -9,7 +9,8 @@ ghost use Rattle.rules.specs.Fits.{Legal};
 ghost use Rattle.rules.specs.ProperProblem.{KindNumber};
 ghost use Rattle.checker.specs.Lent.{stride, fields};
 ghost use Rattle.hull.specs.Narrowing.{spanOf};
-ghost use Rattle.explain.specs.Asking.{shapeIn, OpenBit, Decides};
+ghost use Rattle.checker.specs.Tests.{Decides};
+ghost use Rattle.explain.specs.Asking.{shapeIn, OpenBit};
 ghost use Rattle.explain.specs.Reading.{boundsIn, questionIn};
 
 // A number of word i: 0 past the last word.

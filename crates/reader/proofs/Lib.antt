@@ -1,4 +1,4 @@
-pub mod Deciding
+pub mod Gaps
 pub mod Loading
 pub mod Parse
 pub mod Steps

@@ -1,16 +1,10 @@
 -- What the tests of one block tell.
 -- Assumes nothing: these are definitions.
-use mathlib.Core.Bool.{Bool, true, false}
 use mathlib.Core.List.{List}
 use Prim.Native.Nat.{ℕ, _+_, _*_, _<_}
 use Rattle.blocks.specs.Edition.{edition1}
 use Rattle.blocks.specs.Block.{Clear, WordsBlock, RulesBlock, EndBlock}
 use Rattle.reader.specs.declared.Body.{Body}
-
--- a test tells whether P holds
-pub data Decides (P : Type 0) : Bool → Type 0 where
-  holds : P → Decides P true
-  fails : ¬ P → Decides P false
 
 -- in each of c records of so many bytes, those from `used` to the eighth are 0
 pub record Gaps (size used c : ℕ) (b : List ℕ) : Type 0 where

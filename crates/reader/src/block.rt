@@ -5,7 +5,8 @@ ghost use Prim.Native.Nat.{_+_, _*_, _<_, _≤_};
 ghost use lib.ListN.{length};
 ghost use Rattle.blocks.specs.Bytes.{number, part};
 ghost use Rattle.blocks.specs.Block.{Sound, Clear, Records};
-ghost use Rattle.reader.specs.Tests.{Decides, Gaps, Is};
+ghost use Rattle.checker.specs.Tests.{Decides};
+ghost use Rattle.reader.specs.Tests.{Gaps, Is};
 
 fn wide(x: u8) -> u64
     ensures { λ r. ⌜ (r ≡ x) × (r < 256) ⌝ }

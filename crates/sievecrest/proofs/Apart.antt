@@ -1,13 +1,15 @@
 -- An answer's number taken apart gives its parts, and two answers with one number are the same.
 -- Assumes nothing.
 use mathlib.Core.Path.{_≡_, sym, ap, _∙_}
-use Prim.Native.Nat.{ℕ, _/_, _%_, _<_}
+use Prim.Native.Nat.{ℕ, _/_, _%_}
 use native.Mathlib.Omega.{arith}
 use Rattle.sievecrest.specs.Packed.{Parts, parts, packed, unpacked, Within, Returns}
 
 -- the parts in one number, each at its bits
 pub packed-apart : (p : Parts) → Within p → unpacked (packed p) ≡ p
-packed-apart p h = go (packed p % 256) (packed p / 256 % 4294967296) (packed p / 1099511627776) (omega (arith, h .number, h .count, h .more)) (omega (arith, h .number, h .count, h .more)) (omega (arith, h .number, h .count, h .more))
+packed-apart p h =
+    go (packed p % 256) (packed p / 256 % 4294967296) (packed p / 1099511627776) (omega (arith, h .number)) (omega (arith, h .number, h .count))
+    (omega (arith, h .number, h .count))
   where
     go : (n c m : ℕ) → n ≡ p .number → c ≡ p .count → m ≡ p .more → parts n c m ≡ p
     go n c m a b d = rw (a, b, d)

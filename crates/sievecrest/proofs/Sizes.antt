@@ -1,6 +1,6 @@
 -- The parts of every answer are within their bits, so that one number holds them.
 -- Assumes nothing.
-use mathlib.Core.Path.{_≡_, sym, ap, subst, _∙_}
+use mathlib.Core.Path.{_≡_, sym, subst, _∙_}
 use mathlib.Core.Bool.{Bool, true, false}
 use mathlib.Core.List.{List}
 use Prim.Native.Nat.{ℕ, suc, _+_, _*_, _≤_, _<_}
@@ -8,7 +8,6 @@ use native.Mathlib.Nat.{mul-le-mul-right}
 use native.Mathlib.Omega.{arith}
 use lib.Dec.{leb}
 use lib.ListN.{length}
-use Rattle.words.specs.Bits.{bit}
 use Rattle.words.proofs.Order.{bit-lt}
 use Rattle.rules.specs.Kinds.{Place}
 use Rattle.rules.specs.Meaning.{Shape}
@@ -17,10 +16,10 @@ use Rattle.rules.proofs.ProperRules.{problem-legal}
 use Rattle.checker.specs.declared.Checked.{Checked}
 use Rattle.checker.specs.Lent.{wordCount, ruleCount, ruleAt, rulesOf}
 use Rattle.checker.specs.Demands.{Demand, SIZE, WIDTH, TABLE, KIND, FIELD, FIT, LIMIT, number, place, by-phase, Sized}
-use Rattle.checker.specs.Refusal.{asks, _then_, refusal, refusalWith}
-use Rattle.checker.specs.Promise.{FirstUnmet, Right}
-use Rattle.checker.proofs.Answers.{passes}
+use Rattle.checker.specs.Refusal.{asks, _then_, refusal, refusalWith, room}
+use Rattle.checker.specs.Promise.{Fine, FirstUnmet, Right}
 use Rattle.checker.proofs.Right.{check-right, ok-fine, no-limit}
+use Rattle.checker.proofs.Rooms.{has-room}
 use Rattle.checker.proofs.Faults.{unmet-there}
 use Rattle.checker.proofs.Series.{length-series}
 use Rattle.tighten.specs.declared.Answer.{Answer}
@@ -29,7 +28,7 @@ use Rattle.search.proofs.Limit.{answer-found, answer-none, count-limit}
 use Rattle.solve.specs.declared.Solved.{Solved}
 use Rattle.solve.specs.Promise as Solve
 use Rattle.reasons.specs.Says as Says
-use Rattle.reasons.specs.Reason.{Explains, no-reason, with-reason}
+use Rattle.reasons.specs.Reason.{Explains, with-reason}
 use Rattle.reasons.proofs.Listed.{reason-length}
 use Rattle.explain.specs.declared.Explained.{Explained}
 use Rattle.explain.specs.Promise as Explain
@@ -37,7 +36,6 @@ use Rattle.causes.specs.Cause as Cause
 use Rattle.causes.proofs.Sum.{sum, sum-limit, named-rules}
 use Rattle.cause.specs.declared.Caused.{Caused}
 use Rattle.cause.specs.Promise as Causing
-use Rattle.blocks.specs.declared.Problem.{Problem}
 use Rattle.blocks.specs.declared.Reading.{Reading}
 use Rattle.blocks.specs.declared.Written.{Written}
 use Rattle.blocks.specs.Edition.{edition1}
@@ -58,9 +56,13 @@ within n c m a b d = record { number = a; count = b; more = d }
 
 -- ---- refusals of the problem
 
-size-within : (b : Bool) (y : Checked) → Within (checked y) → Within (checked (asks SIZE b then y))
-size-within true y h = h
-size-within false y h = within 1 0 0 (omega arith) (omega arith) (omega arith)
+room-within : (needed lent : ℕ) (y : Checked) → Within (checked y) → Within (checked (room needed lent y))
+unfolding room
+room-within needed lent y h = go (leb needed lent)
+  where
+    go : (b : Bool) → Within (checked (asks SIZE b then y))
+    go true = h
+    go false = within 1 0 0 (omega arith) (omega arith) (omega arith)
 
 module _ (limit : ℕ) (ws bs : List ℕ) where
   -- a word or a rule that is there, where the sizes fit
@@ -98,7 +100,7 @@ refused-within q h = subst (λ z. Within (checked z)) q h
 pub tighten-within : {ws bs l : List ℕ} {x : Answer} {vs m : List ℕ} → Tighten.Tightening ws bs l x vs m → Within (tightened x)
 unfolding Tighten.refusalHere
 tighten-within {ws} {bs} {l} (Tighten.refused q) =
-    refused-within q (size-within (leb Tighten.workLength (length l)) (refusal ws bs) (problem-within ws bs))
+    refused-within q (room-within Tighten.workLength (length l) (refusal ws bs) (problem-within ws bs))
 tighten-within (Tighten.tight q w b c) = within 36 0 0 (omega arith) (omega arith) (omega arith)
 tighten-within (Tighten.conflict q w c) = within 37 0 0 (omega arith) (omega arith) (omega arith)
 
@@ -108,8 +110,8 @@ module _ {limit : ℕ} {ws bs m l : List ℕ} where
   pub solve-within : limit < 4294967296 → {x : Solved} {m′ l′ : List ℕ} → Solve.Solving limit ws bs m l x m′ l′ → Within (solved x)
   unfolding Solve.refusalHere
   solve-within short (Solve.refused q) =
-      refused-within q (size-within (leb Solve.workLength (length l)) (asks SIZE (leb (wordCount ws) (length m)) then refusalWith limit ws bs)
-      (size-within (leb (wordCount ws) (length m)) (refusalWith limit ws bs) (check-within limit ws bs)))
+      refused-within q (room-within Solve.workLength (length l) (room (wordCount ws) (length m) (refusalWith limit ws bs))
+      (room-within (wordCount ws) (length m) (refusalWith limit ws bs) (check-within limit ws bs)))
   solve-within short (Solve.found-first {g = g} h c v k) =
       within 32 g 0 (omega arith) (omega (arith, count-limit c answer-found (omega arith))) (omega arith)
   solve-within short (Solve.found-none {g = g} h c k) =
@@ -134,36 +136,36 @@ module _ {σ : Shape} {t : Span} (legal : Legal σ t) {p : Place} {j : ℕ} wher
 module _ {ws bs : List ℕ} {n p j : ℕ} {l : List ℕ} where
   pub explain-within : {x : Explained} {m : List ℕ} → Explain.Explaining ws bs n p j l x m → Within (explained x)
   unfolding Explain.refusalHere
-  explain-within (Explain.refused q) = refused-within q (size-within (leb Explain.entries (length l)) (refusal ws bs) (problem-within ws bs))
+  explain-within (Explain.refused q) = refused-within q (room-within Explain.entries (length l) (refusal ws bs) (problem-within ws bs))
   explain-within (Explain.judged q (Explain.not-asked d)) = within 10 0 0 (omega arith) (omega arith) (omega arith)
   explain-within (Explain.judged q (Explain.answered a g)) =
-      let f = ok-fine 0 ws bs (sym (no-limit ws bs) ∙ passes SIZE (leb Explain.entries (length l)) (refusal ws bs) q .1) in
+      let f = ok-fine 0 ws bs (sym (no-limit ws bs) ∙ has-room Explain.entries (length l) (refusal ws bs) q .1) in
       given-within (problem-legal (f .problem) (f .problem .table) n (omega (arith, a .there, length-series (ruleCount bs) (ruleAt bs)))) g
 
 -- ---- cause
 
 module _ {limit : ℕ} {ws bs s l : List ℕ} where
+  taken : Causing.Given limit ws bs s l → Fine limit ws bs
+  unfolding Causing.refusalHere
+  taken g =
+      let a = has-room Causing.workLength (length l) (room (ruleCount bs) (length s) (refusalWith limit ws bs)) (g .passed) in
+      ok-fine limit ws bs (has-room (ruleCount bs) (length s) (refusalWith limit ws bs) (a .1) .1)
+
   -- 253 searches of at most 1,000,000 guesses each
   sum-within : {x : Cause.Cause} → Causing.Given limit ws bs s l → Causing.Named limit ws bs x → sum x < 4294967296
-  unfolding Causing.refusalHere
   sum-within g x =
-      let a = passes SIZE (leb Causing.workLength (length l)) (asks SIZE (leb (ruleCount bs) (length s)) then refusalWith limit ws bs) (g .passed) .1 in
-      let f = ok-fine limit ws bs (passes SIZE (leb (ruleCount bs) (length s)) (refusalWith limit ws bs) a .1) in
+      let f = taken g in
       let few : suc (length (rulesOf bs)) ≤ 253 = omega (arith, f .sized .rules, length-series (ruleCount bs) (ruleAt bs)) in
       omega (arith, sum-limit x, mul-le-mul-right limit few, f .guesses)
 
   named-within : {out : List ℕ} {g : ℕ} → Causing.Given limit ws bs s l → Causing.Named limit ws bs (Cause.CAUSE out g) → length out ≤ 252
-  unfolding Causing.refusalHere
-  named-within g x =
-      let a = passes SIZE (leb Causing.workLength (length l)) (asks SIZE (leb (ruleCount bs) (length s)) then refusalWith limit ws bs) (g .passed) .1 in
-      let f = ok-fine limit ws bs (passes SIZE (leb (ruleCount bs) (length s)) (refusalWith limit ws bs) a .1) in
-      omega (arith, named-rules x, f .sized .rules, length-series (ruleCount bs) (ruleAt bs))
+  named-within g x = let f = taken g in omega (arith, named-rules x, f .sized .rules, length-series (ruleCount bs) (ruleAt bs))
 
   pub cause-within : {x : Caused} {s′ l′ : List ℕ} → Causing.Causing limit ws bs s l x s′ l′ → Within (caused x)
   unfolding Causing.refusalHere
   cause-within (Causing.refused q) =
-      refused-within q (size-within (leb Causing.workLength (length l)) (asks SIZE (leb (ruleCount bs) (length s)) then refusalWith limit ws bs)
-      (size-within (leb (ruleCount bs) (length s)) (refusalWith limit ws bs) (check-within limit ws bs)))
+      refused-within q (room-within Causing.workLength (length l) (room (ruleCount bs) (length s) (refusalWith limit ws bs))
+      (room-within (ruleCount bs) (length s) (refusalWith limit ws bs) (check-within limit ws bs)))
   cause-within (Causing.exists-at {g = g} h x c) = within 40 g 0 (omega arith) (sum-within h x) (omega arith)
   cause-within (Causing.gave-up-at {g = g} h x c) = within 34 g 0 (omega arith) (sum-within h x) (omega arith)
   cause-within (Causing.caused-by {out = out} {g = g} {k = k} h x size e c) =

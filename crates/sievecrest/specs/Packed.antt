@@ -8,7 +8,6 @@ use Rattle.tighten.specs.declared.Answer.{Answer}
 use Rattle.solve.specs.declared.Solved.{Solved}
 use Rattle.explain.specs.declared.Explained.{Explained}
 use Rattle.cause.specs.declared.Caused.{Caused}
-use Rattle.blocks.specs.declared.Problem.{Problem}
 use Rattle.blocks.specs.declared.Reading.{Reading}
 use Rattle.blocks.specs.declared.Written.{Written}
 use Rattle.report.specs.declared.Advised.{Advised}

@@ -1,21 +1,17 @@
 -- The call's own steps: what is not refused is a proper problem with room, and what the search comes to is the answer.
 -- Assumes nothing.
 use mathlib.Core.Path.{_≡_, sym, _∙_}
-use mathlib.Core.Bool.{true}
 use mathlib.Core.List.{List}
 use Prim.Native.Nat.{ℕ, _≤_, _<_}
 use native.Mathlib.Omega.{arith}
-use lib.Dec.{leb}
 use lib.ListN.{length}
-use borrow.Author.Tests.{le-leb, lt-leb, leb-true}
 use Rattle.words.specs.Table.{at}
 use Rattle.checker.specs.declared.Checked.the-variants.{Ok, Refused}
 use Rattle.checker.specs.Lent.{wordCount, ruleCount}
-use Rattle.checker.specs.Demands.{SIZE}
-use Rattle.checker.specs.Refusal.{asks, _then_, refusalWith}
+use Rattle.checker.specs.Refusal.{refusalWith, room}
 use Rattle.checker.specs.Promise.{Fine}
-use Rattle.checker.proofs.Answers.{passes}
 use Rattle.checker.proofs.Right.{ok-fine}
+use Rattle.checker.proofs.Rooms.{too-short, enough, has-room}
 use Rattle.tighten.specs.Memory.{tableIn, Numbered, Cleared}
 use Rattle.tighten.proofs.Calling.{all-chosen, all-listed}
 use Rattle.tighten.proofs.Memory.{low-at}
@@ -31,38 +27,42 @@ use Rattle.solve.specs.Promise.{workLength, refusalHere, Given, Stored, 
 module _ (limit : ℕ) (ws bs m l : List ℕ) where
   pub short-work : length l < workLength → Solving limit ws bs m l (answer.Refused 1 0) m l
   unfolding refusalHere
-  short-work h = refused {n = 1} {p = 0} (rw (lt-leb workLength (length l) h))
+  short-work h = refused (too-short workLength (length l) (room (wordCount ws) (length m) (refusalWith limit ws bs)) h)
 
   pub short-model : workLength ≤ length l → length m < wordCount ws → Solving limit ws bs m l (answer.Refused 1 0) m l
   unfolding refusalHere
-  short-model g h = refused {n = 1} {p = 0} (rw (le-leb workLength (length l) g, lt-leb (wordCount ws) (length m) h))
+  short-model g h =
+      refused
+      (enough workLength (length l) (room (wordCount ws) (length m) (refusalWith limit ws bs)) g
+      ∙ too-short (wordCount ws) (length m) (refusalWith limit ws bs) h)
 
-  enough : workLength ≤ length l → wordCount ws ≤ length m → refusalHere limit ws bs m l ≡ refusalWith limit ws bs
+  passed : workLength ≤ length l → wordCount ws ≤ length m → refusalHere limit ws bs m l ≡ refusalWith limit ws bs
   unfolding refusalHere
-  enough g h = rw (le-leb workLength (length l) g, le-leb (wordCount ws) (length m) h)
+  passed g h =
+      enough workLength (length l) (room (wordCount ws) (length m) (refusalWith limit ws bs)) g ∙ enough (wordCount ws) (length m) (refusalWith limit ws bs) h
 
   pub problem-refused : {n p : ℕ} → workLength ≤ length l → wordCount ws ≤ length m → refusalWith limit ws bs ≡ Refused n p
       → Solving limit ws bs m l (answer.Refused n p) m l
-  problem-refused g h e = refused (enough g h ∙ e)
+  problem-refused g h e = refused (passed g h ∙ e)
 
   pub nothing-refused : workLength ≤ length l → wordCount ws ≤ length m → refusalWith limit ws bs ≡ Ok → Given limit ws bs m l
-  nothing-refused g h e = record { passed = enough g h ∙ e }
+  nothing-refused g h e = record { passed = passed g h ∙ e }
 
 -- ---- what is not
 
 module _ {limit : ℕ} {ws bs m l : List ℕ} (given : Given limit ws bs m l) where
-  both : (leb workLength (length l) ≡ true) × ((asks SIZE (leb (wordCount ws) (length m)) then refusalWith limit ws bs) ≡ Ok)
+  both : (workLength ≤ length l) × (room (wordCount ws) (length m) (refusalWith limit ws bs) ≡ Ok)
   unfolding refusalHere
-  both = passes SIZE (leb workLength (length l)) (asks SIZE (leb (wordCount ws) (length m)) then refusalWith limit ws bs) (given .passed)
+  both = has-room workLength (length l) (room (wordCount ws) (length m) (refusalWith limit ws bs)) (given .passed)
 
-  rest : (leb (wordCount ws) (length m) ≡ true) × (refusalWith limit ws bs ≡ Ok)
-  rest = passes SIZE (leb (wordCount ws) (length m)) (refusalWith limit ws bs) (both .1)
+  rest : (wordCount ws ≤ length m) × (refusalWith limit ws bs ≡ Ok)
+  rest = has-room (wordCount ws) (length m) (refusalWith limit ws bs) (both .1)
 
   pub work-room : workLength ≤ length l
-  work-room = leb-true workLength (length l) (both .0)
+  work-room = both .0
 
   pub model-room : wordCount ws ≤ length m
-  model-room = leb-true (wordCount ws) (length m) (rest .0)
+  model-room = rest .0
 
   pub fine : Fine limit ws bs
   fine = ok-fine limit ws bs (rest .1)

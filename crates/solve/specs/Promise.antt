@@ -3,15 +3,13 @@
 use mathlib.Core.Path.{_≡_}
 use mathlib.Core.List.{List}
 use Prim.Native.Nat.{ℕ, _≤_, _<_}
-use lib.Dec.{leb}
 use lib.ListN.{length}
 use Rattle.words.specs.Table.{at}
 use Rattle.rules.specs.Tight.{Tight, AllHold}
 use Rattle.checker.specs.declared.Checked.{Checked}
 use Rattle.checker.specs.declared.Checked.the-variants.{Ok, Refused}
 use Rattle.checker.specs.Lent.{wordCount, widthsOf, tableOf, rulesOf}
-use Rattle.checker.specs.Demands.{SIZE}
-use Rattle.checker.specs.Refusal.{asks, _then_, refusalWith}
+use Rattle.checker.specs.Refusal.{refusalWith, room}
 use Rattle.tighten.specs.Memory.{Cleared}
 use Rattle.search.specs.Settings.{First, Without}
 use Rattle.search.specs.Search.{Outcome, found, none, gave-up, Search}
@@ -24,8 +22,7 @@ workLength = 4608
 
 -- refusal 1 for memory or a model that is too short, then the refusals of the problem and its limit
 unfoldable pub refusalHere : ℕ → List ℕ → List ℕ → List ℕ → List ℕ → Checked
-refusalHere limit ws bs model l =
-    asks SIZE (leb workLength (length l)) then asks SIZE (leb (wordCount ws) (length model)) then refusalWith limit ws bs
+refusalHere limit ws bs model l = room workLength (length l) (room (wordCount ws) (length model) (refusalWith limit ws bs))
 
 -- nothing is refused
 pub record Given (limit : ℕ) (ws bs model l : List ℕ) : Type 0 where

@@ -5,18 +5,18 @@ use mathlib.Core.Bool.{Bool, true, false}
 use mathlib.Core.List.{List}
 use Prim.Native.Nat.{ℕ, zero, suc, _+_, _*_, _/_, _≤_, _<_}
 use native.Mathlib.Omega.{arith}
-use native.Mathlib.Decide.{ℕ-discrete, decLe}
+use native.Mathlib.Decide.{ℕ-discrete}
 use lib.ListN.{length, set, length-set}
-use borrow.Author.Tests.{le-leb, lt-leb}
 use lib.Seq.{ext-getD, getD-set-same, getD-set-other}
-use Rattle.words.specs.Table.{Table, at}
+use Rattle.words.specs.Table.{at}
 use Rattle.words.proofs.Tables.{table-path}
 use Rattle.rules.specs.Tight.{rule}
-use Rattle.checker.specs.Lent.{stride, wordCount, widthAt, loAt, hiAt, widthsOf, tableOf, ruleCount, ruleAt, rulesOf, series}
+use Rattle.checker.specs.Lent.{stride, wordCount, widthAt, loAt, hiAt, tableOf, ruleCount, ruleAt, rulesOf, series}
 use Rattle.checker.specs.declared.Checked.the-variants.{Ok, Refused}
 use Rattle.checker.specs.Demands.{Sized}
 use Rattle.checker.specs.Refusal.{refusal}
 use Rattle.checker.proofs.Right.{ok-fine, no-limit}
+use Rattle.checker.proofs.Rooms.{too-short, enough, has-room}
 use Rattle.checker.proofs.Series.{length-series, series-at, rule-at}
 use Rattle.tighten.specs.declared.Answer.{Answer}
 use Rattle.tighten.specs.declared.Answer.the-variants as answer
@@ -146,10 +146,6 @@ abbrev pub answerOf : Bool → Answer
 answerOf true = answer.Tight
 answerOf false = answer.Conflict
 
-enough : (ws bs l : List ℕ) → workLength ≤ length l → refusalHere ws bs l ≡ refusal ws bs
-unfolding refusalHere
-enough ws bs l h = rw (le-leb workLength (length l) h)
-
 pub problem-given : {ws bs l : List ℕ} → workLength ≤ length l → refusal ws bs ≡ Ok → Given ws bs l
 problem-given {ws} {bs} h e =
     let fine = ok-fine 0 ws bs (sym (no-limit ws bs) ∙ e) in
@@ -158,28 +154,21 @@ problem-given {ws} {bs} h e =
 module _ {ws bs l : List ℕ} where
   pub short-refused : length l < workLength → Tightening ws bs l (answer.Refused 1 0) ws l
   unfolding refusalHere
-  short-refused h = refused {n = 1} {p = 0} (rw (lt-leb workLength (length l) h))
+  short-refused h = refused (too-short workLength (length l) (refusal ws bs) h)
 
   pub problem-refused : {n p : ℕ} → workLength ≤ length l → refusal ws bs ≡ Refused n p → Tightening ws bs l (answer.Refused n p) ws l
-  problem-refused h e = refused (enough ws bs l h ∙ e)
+  unfolding refusalHere
+  problem-refused h e = refused (enough workLength (length l) (refusal ws bs) h ∙ e)
 
   pub ended-answer : {vs m : List ℕ} {r : Bool} → workLength ≤ length l → refusal ws bs ≡ Ok → Ended ws bs l r vs m → Tightening ws bs l (answerOf r) vs m
-  ended-answer h e (ended-tight x b c) = tight (enough ws bs l h ∙ e) x b c
-  ended-answer h e (ended-conflict x c) = conflict (enough ws bs l h ∙ e) x c
+  unfolding refusalHere
+  ended-answer h e (ended-tight x b c) = tight (enough workLength (length l) (refusal ws bs) h ∙ e) x b c
+  ended-answer h e (ended-conflict x c) = conflict (enough workLength (length l) (refusal ws bs) h ∙ e) x c
 
 -- a problem that is not refused has sizes that fit
 pub here-sized : (ws bs l : List ℕ) → refusalHere ws bs l ≡ Ok → Sized ws bs
 unfolding refusalHere
-here-sized ws bs l e = go (decLe workLength (length l))
-  where
-    short : length l < workLength → Ok ≡ Refused 1 0
-    short q = sym e ∙ rw (lt-leb workLength (length l) q)
-
-    differs : Ok ≡ Refused 1 0 → ⊥
-    differs d = let z : _≡_ {A = ℕ} 0 1 = cc in omega arith
-
-    go : Dec (workLength ≤ length l) → Sized ws bs
-    go (yes h) =
-        let g : Given ws bs l = problem-given h (sym (enough ws bs l h) ∙ e) in
-        g .sized
-    go (no h) = absurd (differs (short (omega arith)))
+here-sized ws bs l e =
+    let (h, ok) = has-room workLength (length l) (refusal ws bs) e in
+    let g : Given ws bs l = problem-given h ok in
+    g .sized

@@ -4,7 +4,6 @@ use mathlib.Core.Path.{_≡_}
 use mathlib.Core.Bool.{Bool, true, false}
 use mathlib.Core.List.{List}
 use Prim.Native.Nat.{ℕ, _≤_}
-use lib.Dec.{leb}
 use lib.ListN.{length}
 use Rattle.words.specs.Table.{Table}
 use Rattle.rules.specs.Tight.{Tight}
@@ -13,8 +12,8 @@ use Rattle.rules.specs.ProperProblem.{ProperProblem}
 use Rattle.checker.specs.declared.Checked.{Checked}
 use Rattle.checker.specs.declared.Checked.the-variants.{Ok, Refused}
 use Rattle.checker.specs.Lent.{widthsOf, tableOf, rulesOf}
-use Rattle.checker.specs.Demands.{SIZE, Sized}
-use Rattle.checker.specs.Refusal.{asks, _then_, refusal}
+use Rattle.checker.specs.Demands.{Sized}
+use Rattle.checker.specs.Refusal.{refusal, room}
 use Rattle.tighten.specs.declared.Answer.{Answer}
 use Rattle.tighten.specs.declared.Answer.the-variants as answer
 use Rattle.tighten.specs.Memory.{Cleared}
@@ -25,7 +24,7 @@ workLength = 320
 
 -- refusal 1 for work memory that is too short, then the refusals of the problem
 unfoldable pub refusalHere : List ℕ → List ℕ → List ℕ → Checked
-refusalHere ws bs l = asks SIZE (leb workLength (length l)) then refusal ws bs
+refusalHere ws bs l = room workLength (length l) (refusal ws bs)
 
 -- the words vs are the words ws with the bounds of table u
 pub record Bounds (ws vs : List ℕ) (u : Table) : Type 0 where

@@ -24,7 +24,12 @@ returns : tie.Need-returns
 returns c =
     let a = c .before .before .before .before .before in
     let s = a .before .before .before .before .before .before .before in
-    record { answer = a .solve .result; promised = a .solve .ensures; within = solve-within (omega (arith, s .fits .limit)) (a .solve .ensures); number = c .of-solved .ensures }
+    record {
+      answer = a .solve .result;
+      promised = a .solve .ensures;
+      within = solve-within (omega (arith, s .fits .limit)) (a .solve .ensures);
+      number = c .of-solved .ensures;
+    }
 
 pub sievecrest-solve-spec : {M : Type 1} → statement M
 sievecrest-solve-spec =

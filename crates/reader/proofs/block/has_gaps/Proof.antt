@@ -3,8 +3,10 @@ use Prim.Native.Nat.{_+_, _-_, _*_, _≤_}
 use native.Mathlib.Omega.{arith}
 use borrow.Author.Needs.{needs}
 use borrow.Author.Tests.{not-true, not-false}
-use Rattle.reader.specs.Tests.{Gaps, holds, fails}
-use Rattle.reader.proofs.Deciding.{decided, refuted, gaps-none, gaps-more, gaps-all, inside}
+use Rattle.checker.specs.Tests.{holds, fails}
+use Rattle.reader.specs.Tests.{Gaps}
+use Rattle.checker.proofs.Deciding.{decided, refuted}
+use Rattle.reader.proofs.Gaps.{gaps-none, gaps-more, gaps-all, inside}
 use Rattle.reader.proofs.block.has_gaps.Statement.{statement}
 use Rattle.reader.proofs.block.has_gaps.Tie as tie
 

@@ -2,8 +2,9 @@
 use native.Mathlib.Omega.{arith}
 use borrow.Author.Needs.{needs}
 use borrow.Author.Tests.{not-true, not-false}
-use Rattle.reader.specs.Tests.{fails}
-use Rattle.reader.proofs.Deciding.{decided, refuted, decides-as, fewer}
+use Rattle.checker.specs.Tests.{fails}
+use Rattle.checker.proofs.Deciding.{decided, refuted, decides-as}
+use Rattle.reader.proofs.Gaps.{fewer}
 use Rattle.reader.proofs.block.has_records.Statement.{statement}
 use Rattle.reader.proofs.block.has_records.Tie as tie
 

@@ -3,8 +3,8 @@ use Prim.Native.Nat.{_-_, _≤_}
 use native.Mathlib.Omega.{arith}
 use borrow.Author.Needs.{needs}
 use Rattle.blocks.specs.Block.{Clear}
-use Rattle.reader.specs.Tests.{holds, fails}
-use Rattle.reader.proofs.Deciding.{clear-none, clear-more, clear-all}
+use Rattle.checker.specs.Tests.{holds, fails}
+use Rattle.reader.proofs.Gaps.{clear-none, clear-more, clear-all}
 use Rattle.reader.proofs.block.is_clear.Statement.{statement}
 use Rattle.reader.proofs.block.is_clear.Tie as tie
 

@@ -1,7 +1,6 @@
--- Tests and what they tell; bytes that are 0, one more a turn; records with their gaps, one more a turn.
+-- Bytes that are 0, one more a turn; records with their gaps, one more a turn.
 -- Assumes nothing.
 use mathlib.Core.Path.{_≡_}
-use mathlib.Core.Bool.{Bool, true, false}
 use mathlib.Core.List.{List}
 use Prim.Native.Nat.{ℕ, suc, _+_, _*_, _<_, _≤_}
 use native.Mathlib.Nat.{mul-suc, mul-le-mul-left}
@@ -9,19 +8,7 @@ use native.Mathlib.Decide.{decLt}
 use native.Mathlib.Omega.{arith}
 use Rattle.words.specs.Table.{at}
 use Rattle.blocks.specs.Block.{Clear}
-use Rattle.reader.specs.Tests.{Decides, holds, fails, Gaps}
-
-pub decided : {P : Type 0} {r : Bool} → Decides P r → r ≡ true → P
-decided (holds p) e = p
-decided (fails n) e = let z : _≡_ {A = ℕ} 0 1 = cc in absurd (omega arith)
-
-pub refuted : {P : Type 0} {r : Bool} → Decides P r → r ≡ false → ¬ P
-refuted (holds p) e = let z : _≡_ {A = ℕ} 0 1 = cc in absurd (omega arith)
-refuted (fails n) e = n
-
-pub decides-as : {P Q : Type 0} {r : Bool} → (P → Q) → (Q → P) → Decides P r → Decides Q r
-decides-as f g (holds p) = holds (f p)
-decides-as f g (fails n) = fails (λ q. n (g q))
+use Rattle.reader.specs.Tests.{Gaps}
 
 -- ---- zeros
 
