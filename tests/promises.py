@@ -1,8 +1,11 @@
 #!/usr/bin/env python3
-"""Every name that docs/PROMISES.md gives beside a file is declared in that file.
+"""Every name that docs/PROMISES.md gives beside a file is declared in that file, and every must-fail edit is named there.
 
-A row is `| words | `name`, `name` | path |`; of what stands in backquotes in its second column each name is looked up.
+A row is `| words | `name`, `name` | path |`; of what stands in backquotes in its second column each name is looked up. Where the path is a folder of
+must-fail edits, a name is that of an edit.
 """
+import glob
+import os
 import re
 import sys
 
@@ -11,6 +14,8 @@ PAGE = "docs/PROMISES.md"
 
 def declared(path):
     """The names that a file declares: antt declarations, constructors and records, and functions of Rattle."""
+    if path.endswith("/must-fail"):
+        return {os.path.basename(edit)[: -len(".edit")] for edit in glob.glob(path + "/*.edit")}
     names = set()
     for line in open(path, encoding="utf-8"):
         if path.endswith(".rt"):
@@ -25,6 +30,7 @@ def declared(path):
 
 def main():
     passed = failed = 0
+    named = set()
     for number, line in enumerate(open(PAGE, encoding="utf-8"), 1):
         cells = [cell.strip() for cell in line.strip().strip("|").split("|")]
         if len(cells) != 3 or not cells[2].startswith("crates/"):
@@ -39,9 +45,16 @@ def main():
         for name in re.findall(r"`([^`]+)`", cells[1]):
             if name in names:
                 passed += 1
+                named.add((path, name))
             else:
                 failed += 1
                 print(f"{PAGE}:{number}: {path} declares no {name}")
+    for edit in sorted(glob.glob("crates/*/must-fail/*.edit")):
+        if (os.path.dirname(edit), os.path.basename(edit)[: -len(".edit")]) in named:
+            passed += 1
+        else:
+            failed += 1
+            print(f"{PAGE}: {edit} is not named")
     if passed == 0:
         failed += 1
         print(f"{PAGE}: no row was found")
