@@ -2,9 +2,7 @@
 mod dropping;
 mod list;
 
-ghost use mathlib.Core.Path.{_≡_};
-ghost use Prim.Native.Nat.{_+_, _*_, _<_, _≤_};
-ghost use lib.ListN.{length};
+ghost use Prim.Native.Nat.{_<_};
 ghost use Rattle.cause.specs.Promise.{Given, Causing, NoneFirst};
 
 // The answer: settings exist, with the first search's count; a search gave up, with the sum; or the cause, with the sum and how many rules it names.

@@ -2,13 +2,13 @@
 -- Assumes nothing.
 use mathlib.Core.Path.{_≡_, refl, sym, ap, _∙_, subst}
 use mathlib.Core.Logic.{_≢_, _⊎_, inl, inr}
-use mathlib.Core.List.{List, [], _∷_, _++_, map}
+use mathlib.Core.List.{List, [], _∷_, map}
 use Prim.Native.Nat.{ℕ, zero, suc, _+_, _≤_, _<_}
 use native.Mathlib.Nat.{le-refl}
 use native.Mathlib.Omega.{arith}
 use lib.ListN.{length, take, List·getD-append, length-append, length-map}
 use lib.Seq.{getD-take, getD-append-add, length-take-le}
-use Rattle.words.specs.Table.{Table, at}
+use Rattle.words.specs.Table.{Table}
 use Rattle.rules.specs.Tight.{Rule, rule, none-rule, HoldsAt, Tight, AllHold}
 use Rattle.rules.proofs.Agree.{tight-agree}
 use Rattle.rules.proofs.Lists.{Any, here, there, any-none}

@@ -1,15 +1,15 @@
 -- Two causes allowed for one problem and one limit are equal.
 -- Assumes nothing.
-use mathlib.Core.Path.{_≡_, refl, sym, ap}
+use mathlib.Core.Path.{_≡_, refl, ap}
 use mathlib.Core.List.{List}
 use Prim.Native.Nat.{ℕ}
 use native.Mathlib.Omega.{arith}
 use Rattle.words.specs.Table.{Table}
 use Rattle.rules.specs.Tight.{Rule, Tight}
-use Rattle.search.specs.Search.{Outcome, found, none, gave-up}
+use Rattle.search.specs.Search.{Outcome, found, none}
 use Rattle.search.proofs.Outcomes.{found-not-none, found-not-gave-up, none-not-gave-up}
 use Rattle.search.proofs.Unique.{one-outcome}
-use Rattle.causes.specs.Cause.{Cause, CAUSE, GAVE-UP, Tried, Trims, decided, spared, needed, unknown, Causes, exists, gives-up, trimmed}
+use Rattle.causes.specs.Cause.{Cause, CAUSE, Tried, Trims, decided, spared, needed, unknown, Causes, exists, gives-up, trimmed}
 
 module _ {w : List ℕ} {limit : ℕ} {t : Table} where
   pub same : {xs : List Rule} {o o′ : Outcome} → Tried w limit t xs o → Tried w limit t xs o′ → o ≡ o′

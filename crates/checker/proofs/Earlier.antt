@@ -15,7 +15,7 @@ use Rattle.checker.specs.declared.Checked.the-variants.{Ok}
 use Rattle.checker.specs.Lent.{wordCount, widthAt, loAt, hiAt, ruleCount, ruleAt}
 use Rattle.checker.specs.Demands.{Demand, SIZE, WIDTH, TABLE, KIND, FIELD, FIT, LIMIT, number, place, phase, Before, Sized, Met, most-guesses}
 use Rattle.checker.specs.Tests.{isWidth, isKind, areFields, isFitting}
-use Rattle.checker.specs.Refusal.{asks, _then_, wordRefusal, ruleRefusal}
+use Rattle.checker.specs.Refusal.{asks, wordRefusal, ruleRefusal}
 use Rattle.checker.proofs.Firsts.{asks-ok, then-ok}
 use Rattle.checker.proofs.TestsMet.{width-met, kind-met, fields-met, fitting-met}
 use Rattle.checker.proofs.Orders.{phase-le, same-phase, not-self}

@@ -1,7 +1,7 @@
 -- What one turn of each loop that reads comes to, and why it stops where it does. Assumes nothing.
 use mathlib.Core.Path.{_≡_, refl, sym, subst, _∙_, ap}
 use mathlib.Core.List.{List, [], _∷_, _++_, append-assoc, append-nil}
-use Prim.Native.Nat.{ℕ, suc, _+_, _-_, _*_, _^_, _≤_, _<_}
+use Prim.Native.Nat.{ℕ, suc, _+_, _*_, _^_, _≤_, _<_}
 use native.Mathlib.Numerals.{add-one}
 use native.Mathlib.Omega.{arith}
 use lib.ListN.{length, take, drop, set, getD, length-set, length-append, length-drop, drop-of-length-le}
@@ -11,7 +11,7 @@ use Rattle.lines.specs.Digits.{Digit, digitOf, Stops, Small}
 use Rattle.lines.specs.Reading.{NumberAt, NoNumber, NumbersAt, NoNumbers}
 use Rattle.lines.proofs.Decimals.{decimal-one, decimal-push}
 use Rattle.lines.proofs.Values.{decimal-some}
-use Rattle.lines.proofs.Apart.{decimal-first, number-goes, stops-spaced, spaced-once}
+use Rattle.lines.proofs.Apart.{decimal-first, number-goes, spaced-once}
 use Rattle.lines.proofs.Appends.{spaced-more}
 
 -- ---- a number, digit by digit

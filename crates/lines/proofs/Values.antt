@@ -1,5 +1,5 @@
 -- The value of digits: that of a number in decimal is the number, and a number but 0 begins with no 0. Assumes nothing.
-use mathlib.Core.Path.{_≡_, refl, sym, ap, _∙_}
+use mathlib.Core.Path.{_≡_, refl, sym, _∙_}
 use mathlib.Core.Bool.{Bool, true, false}
 use mathlib.Core.List.{List, [], _∷_, _++_}
 use Prim.Native.Nat.{ℕ, zero, suc, _+_, _-_, _*_, _/_, _%_, _^_, _≤_, _<_}
@@ -9,7 +9,6 @@ use borrow.Author.Tests.{ltb-true, ltb-false}
 use lib.Dec.{ltb}
 use lib.ListN.{length, getD, length-append, List·getD-append}
 use Rattle.lines.specs.Text.{digits, decimal}
-use Rattle.lines.specs.Digits.{Digit}
 use Rattle.lines.proofs.Decimals.{digits-one, digits-more}
 
 -- the digits xs behind the number n

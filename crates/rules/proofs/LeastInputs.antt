@@ -1,7 +1,7 @@
 -- There is a least number of words that are inputs: whether a word follows from those before it can be decided.
 -- Assumes nothing.
 use mathlib.Core.Path.{_≡_, refl, subst, ap}
-use mathlib.Core.Logic.{_≢_, _⊎_, inl, inr}
+use mathlib.Core.Logic.{_⊎_, inl, inr}
 use mathlib.Core.Bool.{Bool, true, false}
 use mathlib.Core.List.{List}
 use Prim.Native.Nat.{ℕ, zero, suc, _≤_, _<_}

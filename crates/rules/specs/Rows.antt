@@ -3,7 +3,7 @@
 use mathlib.Core.Path.{_≡_}
 use mathlib.Core.Bool.{Bool, true, false}
 use Prim.Native.Nat.{ℕ, _+_, _≤_, _<_}
-use Rattle.rules.specs.Kinds.{Place, R, A, B, S, Op, COPY, NOT, AND, OR, XOR, ADD, ITE, SLICE, JOIN, SHL, SHR, Rel, Kind, op, rel}
+use Rattle.rules.specs.Kinds.{Place, R, A, B, S, Op, COPY, NOT, AND, OR, XOR, ADD, ITE, SLICE, JOIN, SHL, SHR, Kind, op, rel}
 
 -- the operands that a computing kind uses beside r
 pub data Row : Type 0 where

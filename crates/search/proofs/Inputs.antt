@@ -1,19 +1,17 @@
 -- Where the later words follow from the inputs, the guess falls on an input; and with rules added, the inputs stay inputs and have no more open bits.
 -- Assumes nothing.
-use mathlib.Core.Path.{_≡_}
 use mathlib.Core.Logic.{_⊎_, inl, inr}
 use mathlib.Core.List.{List}
 use Prim.Native.Nat.{ℕ, _≤_, _<_}
 use native.Mathlib.Omega.{arith}
 use native.Mathlib.Decide.{decLt}
-use lib.ListN.{length}
 use Rattle.words.specs.Table.{Table, Inside, Open, Guess, at}
 use Rattle.words.specs.Count.{openBelow}
 use Rattle.words.proofs.Order.{bit-lt}
 use Rattle.words.proofs.Tables.{in-reach, word-closed, self}
 use Rattle.words.proofs.Falls.{open-less}
-use Rattle.rules.specs.Tight.{Rule, Tight, rule}
-use Rattle.rules.specs.Tightening.{Widest, Conflict}
+use Rattle.rules.specs.Tight.{Rule, Tight}
+use Rattle.rules.specs.Tightening.{Widest}
 use Rattle.rules.specs.Inputs.{Computed, Inputs}
 use Rattle.rules.proofs.Tight.{result-fixed}
 use Rattle.rules.proofs.OneWidest.{widest-narrower}

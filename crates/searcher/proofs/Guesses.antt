@@ -3,14 +3,14 @@
 use mathlib.Core.Path.{_≡_, sym, ap, _∙_}
 use mathlib.Core.Logic.{_≢_, inr}
 use mathlib.Core.List.{List}
-use Prim.Native.Nat.{ℕ, zero, _+_, _-_, _^_, _≤_, _<_}
+use Prim.Native.Nat.{ℕ, _+_, _-_, _^_, _≤_, _<_}
 use native.Mathlib.Nat.{zero-add}
 use native.Mathlib.Omega.{arith}
 use native.Mathlib.Decide.{decLt}
 use lib.Bits.{bitXor}
 use lib.ListN.{length, take, drop, set, length-set}
 use lib.Seq.{take-set-le, drop-set-lt, getD-set-other}
-use Rattle.words.specs.Bits.{bit, _⊑_}
+use Rattle.words.specs.Bits.{bit}
 use Rattle.words.specs.Word.{topOpen}
 use Rattle.words.specs.Table.{Inside, Open, Guess, Done, at, with0, with1}
 use Rattle.words.proofs.Order.{⊑-le, bit-of-zero, bits-ext}

@@ -4,14 +4,14 @@ ghost use Prim.Native.Nat.{_+_, _<_, _≤_};
 ghost use lib.ListN.{length};
 ghost use Rattle.searcher.specs.Guessing.{Lowest, Fixable, firstOf, secondOf, Copied, Second};
 
-// The lowest-numbered of n words whose bounds differ; n where there is none.
+// The lowest-numbered of n words with an open bit; n where there is none.
 pub fn open_word(work: &[u64], n: usize) -> usize
     requires { ⌜ (n ≤ 32) × (64 ≤ length (now work)) ⌝ }
     ensures { λ r. ⌜ Lowest n (now (work .entry)) r ⌝ }
 {
     let mut i = 0;
     while i < n {
-        if work[i] != work[i + 32] {
+        if words::open_bits(work[i], work[i + 32]) > 0 {
             return i;
         }
         i += 1;

@@ -2,9 +2,7 @@
 // then the trail that takes its changes back. Nothing is kept on the stack but a level's own numbers.
 mod guess;
 
-ghost use mathlib.Core.Path.{_≡_};
-ghost use Prim.Native.Nat.{_+_, _*_, _<_, _≤_};
-ghost use lib.ListN.{length};
+ghost use Prim.Native.Nat.{_+_};
 ghost use Rattle.searcher.specs.Searching.{Begun, Searched, Prepared};
 ghost use Rattle.searcher.specs.Starting.{Asked, Sought};
 

@@ -15,7 +15,7 @@ use Rattle.checker.specs.declared.Checked.{Checked}
 use Rattle.checker.specs.Lent.{wordCount, ruleCount, ruleAt, rulesOf}
 use Rattle.checker.specs.Demands.{number, place, Sized}
 use Rattle.checker.specs.Refusal.{refusal, refusalWith, room}
-use Rattle.checker.specs.Promise.{Fine, Right}
+use Rattle.checker.specs.Promise.{Fine}
 use Rattle.checker.proofs.Right.{ok-fine, no-limit}
 use Rattle.checker.proofs.Rooms.{has-room}
 use Rattle.checker.proofs.Series.{length-series}
@@ -36,7 +36,6 @@ use Rattle.cause.specs.Promise as Causing
 use Rattle.blocks.specs.declared.Reading.{Reading}
 use Rattle.blocks.specs.declared.Written.{Written}
 use Rattle.blocks.specs.Edition.{edition1}
-use Rattle.blocks.specs.File.{check}
 use Rattle.blocks.specs.Promise as File
 use Rattle.blocks.specs.Written.{encode}
 use Rattle.blocks.proofs.Counts.{blocks-rise}

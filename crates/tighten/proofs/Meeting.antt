@@ -21,7 +21,6 @@ use Rattle.rules.specs.Tightening.{Conflict}
 use Rattle.rules.proofs.Narrowed.{narrowed, narrowed-inside, narrowed-falls}
 use Rattle.rules.proofs.Held.{Held}
 use Rattle.hull.proofs.WrittenBack.{met-held, met-crossed}
-use Rattle.tighten.specs.declared.Met.{Met}
 use Rattle.tighten.specs.Memory.{tableIn, Outside}
 use Rattle.tighten.specs.Meeting.{State, stored, metBy}
 use Rattle.tighten.proofs.Stepping.{true-false}

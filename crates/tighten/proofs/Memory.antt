@@ -1,6 +1,6 @@
 -- The table in work memory: what stands at a word's bounds, and new bounds stored.
 -- Assumes nothing.
-use mathlib.Core.Path.{_≡_, refl, sym, ap, _∙_}
+use mathlib.Core.Path.{_≡_, refl, ap, _∙_}
 use mathlib.Core.Logic.{_⊎_, inl, inr}
 use mathlib.Core.List.{List, [], _∷_}
 use Prim.Native.Nat.{ℕ, zero, suc, _+_, _≤_, _<_}
@@ -8,7 +8,7 @@ use native.Mathlib.Nat.{add-comm, add-zero, add-suc, le-of-suc-le-suc}
 use native.Mathlib.Omega.{arith}
 use lib.ListN.{length, take, drop, set, length-take, length-drop, length-set}
 use lib.Seq.{getD-take, getD-drop, take-set-le, drop-set-lt, getD-set-other}
-use Rattle.words.specs.Table.{Table, at}
+use Rattle.words.specs.Table.{at}
 use Rattle.words.proofs.Tables.{table-path}
 use Rattle.rules.proofs.Narrowed.{narrowed}
 use Rattle.tighten.specs.Memory.{tableIn, Outside}

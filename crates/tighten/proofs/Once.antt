@@ -2,7 +2,7 @@
 -- Assumes nothing.
 use mathlib.Core.Path.{_≡_, refl, sym, ap, _∙_}
 use mathlib.Core.List.{List}
-use Prim.Native.Nat.{ℕ, zero, suc, _+_, _*_, _/_, _%_, _<_}
+use Prim.Native.Nat.{ℕ, zero, suc, _+_, _*_, _/_, _%_}
 use native.Mathlib.Omega.{arith}
 use lib.ListN.{length}
 use lib.Seq.{ext-getD}
@@ -11,12 +11,11 @@ use Rattle.rules.specs.Tight.{Tight}
 use Rattle.rules.proofs.OneWidest.{one-widest, not-both}
 use Rattle.checker.specs.declared.Checked.{Checked}
 use Rattle.checker.specs.declared.Checked.the-variants.{Ok, Refused}
-use Rattle.checker.specs.Lent.{stride, wordCount, widthAt, loAt, hiAt, widthsOf, tableOf, rulesOf}
-use Rattle.checker.specs.Demands.{Sized}
+use Rattle.checker.specs.Lent.{stride, widthAt, loAt, hiAt, widthsOf, tableOf, rulesOf}
 use Rattle.checker.proofs.Series.{width-at, lo-at, hi-at}
 use Rattle.tighten.specs.declared.Answer.{Answer}
 use Rattle.tighten.specs.Memory.{Cleared}
-use Rattle.tighten.specs.Promise.{refusalHere, Bounds, Tightening, refused, tight, conflict}
+use Rattle.tighten.specs.Promise.{Bounds, Tightening, refused, tight, conflict}
 use Rattle.tighten.proofs.Calling.{here-sized}
 
 pub cleared-once : {l m n : List ℕ} → Cleared l m → Cleared l n → m ≡ n

@@ -1,18 +1,17 @@
 -- A rule of a ready problem: its words are there, its narrowing may be asked for, and that narrowing is one over the table in memory.
 -- Assumes nothing.
-use mathlib.Core.Path.{_≡_, refl, sym, ap, _∙_, subst, fun-ext}
+use mathlib.Core.Path.{_≡_, refl, sym, ap, subst, fun-ext}
 use mathlib.Core.Bool.{Bool, true, false}
 use mathlib.Core.List.{List}
-use Prim.Native.Nat.{ℕ, suc, _+_, _*_, _≤_, _<_}
+use Prim.Native.Nat.{ℕ, _*_, _≤_, _<_}
 use native.Mathlib.Omega.{arith}
 use lib.Dec.{T}
 use lib.ListN.{length}
-use Rattle.words.specs.Table.{Table, at}
+use Rattle.words.specs.Table.{at}
 use Rattle.rules.specs.Kinds.{Place, R, A, B, S, Kind, op, rel, kindOf}
 use Rattle.rules.specs.Rows.{uses}
-use Rattle.rules.specs.Meaning.{Shape}
-use Rattle.rules.specs.Fits.{Span, Uses, Fit, Hull, Legal}
-use Rattle.rules.specs.Tight.{Rule, word, rule, shape, span}
+use Rattle.rules.specs.Fits.{Legal}
+use Rattle.rules.specs.Tight.{Rule, word, shape, span}
 use Rattle.rules.specs.ProperProblem.{ProperRule}
 use Rattle.rules.proofs.ProperRules.{rule-legal}
 use Rattle.rules.proofs.Propers.{proper-inside}
@@ -20,7 +19,7 @@ use Rattle.hull.specs.declared.Bounds.{Bounds}
 use Rattle.hull.specs.declared.Narrowed.{Narrowed}
 use Rattle.hull.specs.declared.Widths.{Widths}
 use Rattle.hull.specs.Narrowing.{widthOf, loOf, hiOf, shapeOf, spanOf, Narrows}
-use Rattle.checker.specs.Lent.{stride, fields, wordCount, widthAt, widthsOf, ruleCount, ruleAt, rulesOf}
+use Rattle.checker.specs.Lent.{fields, wordCount, widthAt, widthsOf, ruleCount, ruleAt}
 use Rattle.checker.proofs.Series.{length-series, width-at, rule-at}
 use Rattle.tighten.specs.Memory.{tableIn}
 use Rattle.tighten.specs.declared.Met.{Met}
@@ -28,7 +27,7 @@ use Rattle.tighten.specs.declared.Numbers.{Numbers}
 use Rattle.tighten.specs.Meeting.{State, numbersAt, boundsAt, widthsAt, metAll}
 use Rattle.tighten.specs.Ready.{Ready, Applied}
 use Rattle.tighten.proofs.Memory.{low-at, high-at}
-use Rattle.tighten.proofs.Applying.{ruleOf, begun, applied-stepped, applied-outside}
+use Rattle.tighten.proofs.Applying.{ruleOf, applied-stepped, applied-outside}
 
 -- every kind uses a
 uses-a : (κ : Kind) → T (uses κ A)

@@ -2,13 +2,13 @@
 -- Assumes nothing.
 use mathlib.Core.Path.{_≡_, refl, sym, ap, ap₂, _∙_}
 use mathlib.Core.Bool.{Bool, true, false, _||_}
-use Prim.Native.Nat.{ℕ, _<_, _≤_}
+use Prim.Native.Nat.{ℕ, _<_}
 use native.Mathlib.Omega.{arith}
 use Rattle.words.specs.Table.{Table, Inside}
 use Rattle.words.specs.Count.{openBelow}
-use Rattle.words.proofs.Tables.{self, inside-trans}
+use Rattle.words.proofs.Tables.{inside-trans}
 use Rattle.words.proofs.Falls.{open-less}
-use Rattle.rules.specs.Tightening.{Widest, Conflict}
+use Rattle.rules.specs.Tightening.{Conflict}
 use Rattle.tighten.specs.declared.Met.{Met}
 use Rattle.tighten.specs.Stepping.{Stepped}
 

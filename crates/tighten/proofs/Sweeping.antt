@@ -4,16 +4,14 @@ use mathlib.Core.Path.{_≡_, refl, sym, ap, _∙_, fun-ext}
 use mathlib.Core.Logic.{inr}
 use mathlib.Core.Bool.{Bool, true, false, _||_}
 use mathlib.Core.List.{List}
-use Prim.Native.Nat.{ℕ, suc, _+_, _≤_, _<_}
+use Prim.Native.Nat.{ℕ, suc, _+_, _<_}
 use native.Mathlib.Numerals.{add-one}
 use native.Mathlib.Omega.{arith}
 use native.Mathlib.Decide.{ℕ-discrete}
 use lib.ListN.{length}
-use Rattle.words.specs.Table.{Table, Inside, at}
-use Rattle.words.specs.Count.{openBelow}
-use Rattle.words.proofs.Tables.{self}
-use Rattle.rules.specs.Tight.{Rule, rule, none-rule, TightAt, Tight}
-use Rattle.rules.specs.Tightening.{Widest, Conflict}
+use Rattle.words.specs.Table.{Table, at}
+use Rattle.rules.specs.Tight.{rule, none-rule, TightAt, Tight}
+use Rattle.rules.specs.Tightening.{Conflict}
 use Rattle.rules.proofs.Propers.{proper-inside, proper-narrower}
 use Rattle.rules.proofs.Held.{Held, held-start, held-trans, held-tight, held-conflict}
 use Rattle.checker.specs.Lent.{wordCount, widthsOf, ruleCount, ruleAt, series, rulesOf}

@@ -1,6 +1,5 @@
 // The copy of the last tight table, and the trail that takes its changes back, in one lent memory: the table at 0..64, the copy at 316..380, then the trail.
 // An entry of the trail is two numbers: which number of the copy changed, and what it was.
-ghost use mathlib.Core.Path.{_≡_};
 ghost use mathlib.Core.Logic.{_⊎_};
 ghost use Prim.Native.Nat.{_+_, _*_, _<_, _≤_};
 ghost use lib.ListN.{length};

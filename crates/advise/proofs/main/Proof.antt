@@ -1,7 +1,6 @@
 -- `advise::main` meets its contract. Assumes nothing.
 use mathlib.Core.Path.{subst, sym}
 use Prim.Native.Nat.{_≤_}
-use native.Mathlib.Omega.{arith}
 use lib.ListN.{length}
 use lib.Seq.{length-take-le}
 use Rattle.advise.specs.Reading.{Reads}

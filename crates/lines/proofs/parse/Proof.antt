@@ -1,6 +1,5 @@
 -- `lines::parse` meets its contract. Assumes nothing.
 use mathlib.Core.Path.{subst, ap, _∙_}
-use mathlib.Core.List.{List}
 use Prim.Native.Nat.{ℕ}
 use native.Mathlib.Omega.{arith}
 use lib.ListN.{replicate}

@@ -1,7 +1,6 @@
 -- `tighten::settle` meets its contract. Assumes nothing.
 use mathlib.Core.Path.{_∙_}
 use borrow.Author.Tests.{not-true, not-false}
-use native.Mathlib.Omega.{arith}
 use Rattle.words.specs.Count.{openBelow}
 use Rattle.checker.specs.Lent.{wordCount}
 use Rattle.tighten.specs.Memory.{tableIn}

@@ -1,6 +1,5 @@
 -- `lines::list::narrow` meets its contract. Assumes nothing.
 use mathlib.Core.Path.{refl}
-use mathlib.Core.Bool.{true, false}
 use native.Mathlib.Omega.{arith}
 use Rattle.lines.proofs.Lists.{told-no}
 use borrow.Author.Needs.{needs}
