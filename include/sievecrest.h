@@ -1,4 +1,4 @@
-/* The calls of Sievecrest for C99 and C++: link with libsievecrest.a, which `rt staticlib sievecrest` proves and builds.
+/* The calls of Sievecrest for C99 and C++, on Linux on x86-64: link with libsievecrest.a, which `rt staticlib sievecrest` proves and builds.
 
 How a problem is lent. `words` are numbers of 64 bits, SIEVECREST_STRIDE a word: width, lo, hi. `rules` are bytes, SIEVECREST_FIELDS a rule: kind, r, a, b, s,
 k; a field that the kind does not use is 0. Each lent buffer is followed by its length: how many numbers, bytes or entries it has. So three words have a
@@ -9,7 +9,7 @@ What C must keep, since no call can test it:
   - a pointer is not null, is aligned for its type, and is valid for its whole length; it is not null for a length of 0 either;
   - no lent buffer overlaps another one;
   - while a call runs, nobody else writes what is lent to it, or reads what the call may write;
-  - a call that searches (solve, cause, advise) has one megabyte of stack; docs/MANUAL.md says how much of it was seen in use.
+  - a call that searches (solve, cause, advise) has one mebibyte of stack; docs/MANUAL.md says how much of it was seen in use.
 No call keeps anything after it has returned, so calls with buffers of their own may run at the same time.
 
 What comes back. Every call returns one number of 64 bits: the answer's own number in bits 0 to 7, below SIEVECREST_FOUND a refusal; in bits 8 to 39 its place,

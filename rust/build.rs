@@ -13,7 +13,17 @@ fn folder() -> PathBuf {
     Path::new(&here).join(named)
 }
 
+/// The library's machine code is for one kind of machine; on another the linker would say so in a less clear way.
+fn check_target() {
+    let is = |name: &str, wanted: &str| var_os(name).map_or(true, |x| x == wanted);
+    if !is("CARGO_CFG_TARGET_ARCH", "x86_64") || !is("CARGO_CFG_TARGET_OS", "linux") {
+        eprintln!("libsievecrest.a is for Linux on x86-64: build for the target x86_64-unknown-linux-gnu");
+        exit(1);
+    }
+}
+
 fn main() {
+    check_target();
     let folder = folder();
     let library = folder.join("libsievecrest.a");
     println!("cargo:rerun-if-env-changed={FOLDER}");

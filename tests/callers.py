@@ -96,16 +96,14 @@ def places():
     for name in "SIZE WIDTH TABLE KIND FIELD FIT LIMIT".split():
         yield name, "crates/checker/src/lib.rt", constant(name)
         yield name, "crates/checker/specs/Demands.antt", demand(name)
-    for name in "SIZE CHECK LAYOUT".split():
+    for name in "CHECK LAYOUT".split():
         yield name, "crates/reader/src/lib.rt", constant(name)
-    yield "SIZE", "crates/writer/src/lib.rt", constant("SIZE")
-    yield "CHECK", "crates/blocks/specs/File.antt", r"^    check : .* → Fault f (\d+) i$"
-    yield "LAYOUT", "crates/blocks/specs/File.antt", r"^    (?:layout|last) : .* → Fault f (\d+) i$"
+        yield name, "crates/blocks/specs/File.antt", definition(name)
     yield "ASK", "crates/explain/src/lib.rt", constant("ASK")
-    yield "EMPTY", "crates/cause/src/lib.rt", r"kept == 0 \{\s*return Caused::Refused\((\d+), 0\)"
+    yield "ASK", "crates/explain/specs/Promise.antt", definition("ASK")
+    yield "EMPTY", "crates/cause/src/lib.rt", constant("EMPTY")
     for name in "STRIDE FIELDS".split():
-        for crate in "checker reader writer report".split():
-            yield name, f"crates/{crate}/src/lib.rt", constant(name)
+        yield name, "crates/checker/src/lib.rt", constant(name)
         yield name, "crates/checker/specs/Lent.antt", definition(name.lower())
     for name in "WORDS RULES GUESSES".split():
         yield name, "crates/checker/src/lib.rt", constant(name)
@@ -159,7 +157,10 @@ def in_crates(tally):
     wanted = {}
     for name, path, pattern in places():
         number = number_at(tally, name, path, pattern)
-        tally.same(f"{name} of {path}", number, wanted.setdefault(name, number))
+        if name in wanted:
+            tally.same(f"{name} of {path}", number, wanted[name])
+        else:
+            wanted[name] = number
     listed(tally, "crates/rules/specs/Kinds.antt", r"(?:op|rel) ([A-Z]+) ∷")
     listed(tally, "crates/checker/src/rows.rt", r"^    \[[\d, ]+\], // ([A-Z]+)$")
     wanted.update(("KIND_" + kind, i) for i, kind in enumerate(KINDS, 1))
@@ -196,11 +197,12 @@ def altered(text, match, spared):
 def compare_numbers(tally, path, pattern, wanted, spared=frozenset()):
     """The numbers of the header or the wrapper are those of the crates, and none could be another one unseen."""
     text = text_of(path)
-    tally.same(f"numbers of {path} that are not those of the crates", differences(text, pattern, wanted, spared), [])
-    for match in re.finditer(pattern, text, re.M):
-        name = match.group(1)
-        for copy in altered(text, match, spared):
-            tally.same(f"{name} altered in a copy of {path} is reported", name in differences(copy, pattern, wanted, spared), True)
+    wrong = differences(text, pattern, wanted, spared)
+    matches = list(re.finditer(pattern, text, re.M))
+    for name in sorted({match.group(1) for match in matches} | set(wrong)):
+        tally.same(f"{name} of {path} is the number of the crates", name in wrong, False)
+    unseen = [x.group(1) for x in matches if any(x.group(1) not in differences(copy, pattern, wanted, spared) for copy in altered(text, x, spared))]
+    tally.same(f"numbers that are altered in a copy of {path} and not reported", unseen, [])
 
 
 def numbers(tally):
@@ -270,10 +272,7 @@ def from_c(tally, folder):
     tally.same(f"{WORKED} is the example of {HEADER}", text_of(WORKED), text)
     worked(tally, ["cc", "-std=c99"], "worked", folder, printed)
     calls(tally, folder)
-    if shutil.which("c++"):
-        worked(tally, ["c++", "-std=c++11", "-x", "c++"], "worked-c++", folder, printed)
-    else:
-        progress("c++ is missing, so the header is not tried as C++; install the package g++ for that")
+    worked(tally, ["c++", "-std=c++11", "-x", "c++"], "worked-c++", folder, printed)
 
 
 # ---- Rust
@@ -327,7 +326,7 @@ def main():
     begin = time.monotonic()
     if len(sys.argv) != 2 or not os.access(sys.argv[1], os.X_OK):
         stop("give the adviser program, proved and linked, as target/bin/advise")
-    for tool, package in (("cc", "gcc"), ("cargo", "cargo")):
+    for tool, package in (("cc", "gcc"), ("c++", "g++"), ("cargo", "cargo")):
         if shutil.which(tool) is None:
             stop(f"{tool} is missing; install the package {package}")
     tally = Tally()

@@ -47,7 +47,7 @@ def main():
         else:
             passed += 1
     print(f"{passed} passed, {failed} failed")
-    return 1 if failed else 0
+    return 1 if failed or not passed else 0
 
 
 sys.exit(main())

@@ -9,8 +9,7 @@ KINDS = (
     r"specs/\w+\.antt",
     r"proofs/([\w+]+/)*\w+\.antt",
     r"must-fail/\w+\.edit",
-    r"stdin|stdout|args",
-    r"data/.+",
+    r"stdin|stdout",
 )
 
 

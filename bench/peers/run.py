@@ -3,7 +3,7 @@
 
 bench/peers/run.py [PROGRAM]. The boards are those of tests/peers. Each program is started anew for each board and answers it whole: the adviser and the plain
 search give count, first settings or cause; z3 and cvc5 are asked for sat or unsat alone, which is less. The programs take turns on each board, so that all see
-the machine in the same state. The time of the start is in every figure, and the table gives it: a run of each program on the smallest board.
+the machine in the same state. The time of the start is in every figure, and the least time shows it.
 """
 import os
 import shutil

@@ -92,11 +92,14 @@ mod tests {
     fn every_refusal_has_its_own_sentence_with_its_place() {
         let places = ["", "block 5 ", "block 5 ", "word 5 ", "word 5 ", "rule 5 ", "rule 5 ", "rule 5 ", "", "", ""];
         let names = ["SIZE", "CHECK", "LAYOUT", "WIDTH", "TABLE", "KIND", "FIELD", "FIT", "LIMIT", "ASK", "EMPTY"];
+        let mut sentences = std::collections::HashSet::new();
         for (number, (place, name)) in (1..).zip(places.into_iter().zip(names)) {
             let refusal = Refusal { number, place: 5 };
             assert_eq!(refusal.to_string(), format!("refused, {number} {name}: {place}{}", refusal.fault()));
             assert!(refusal.fault().contains("; "), "{name} does not say what to do");
+            assert!(sentences.insert(refusal.fault()), "{name} says what another refusal says");
         }
+        assert_eq!(sentences.len(), 11);
     }
 
     /// A caller can make such a refusal, and it must print all the same.

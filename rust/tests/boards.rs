@@ -201,7 +201,7 @@ fn every_comparison_holds_or_is_a_conflict() {
 
 /// The deepest search there is, 2,048 levels, on the stack that the front page names.
 #[test]
-fn the_deepest_search_needs_a_mebibyte_of_stack() {
+fn a_mebibyte_is_enough_for_the_deepest_search() {
     let deepest = || board(&[Word::open(64); WORDS], &[Rule::ule(31, 31)], GUESSES).solve();
     let thread = std::thread::Builder::new().stack_size(1 << 20).spawn(deepest).unwrap();
     assert_eq!(thread.join().unwrap(), found(&[0; WORDS], 2048));

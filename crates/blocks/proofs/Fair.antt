@@ -11,7 +11,7 @@ use Rattle.rules.specs.Tight.{Rule}
 use Rattle.blocks.specs.Bytes.{zeros}
 use Rattle.blocks.specs.Records.{wordBytes, ruleBytes, wordRecord, ruleRecord}
 use Rattle.blocks.specs.Edition.{Form, Edition, edition1}
-use Rattle.blocks.specs.File.{most-words, most-rules}
+use Rattle.rules.specs.ProperProblem.{most-words, most-rules}
 use Rattle.blocks.specs.Written.{blocksFor, wordBlocks, ruleBlocks}
 use Rattle.blocks.proofs.Pieces.{length-zeros, at-zeros}
 use Rattle.blocks.proofs.Numbers.{length-le}

@@ -8,10 +8,10 @@ use native.Mathlib.Decide.{decLt}
 use native.Mathlib.Omega.{arith}
 use Rattle.blocks.specs.Bytes.{total}
 use Rattle.blocks.specs.Edition.{Form, Edition}
-use Rattle.blocks.specs.Block.{sixteen, RecordBlock}
+use Rattle.blocks.specs.Block.{RecordBlock}
 use Rattle.blocks.specs.File.{blockAt, countAt, Blocks}
 use Rattle.blocks.specs.Written.{held, blocksFor}
-use Rattle.blocks.proofs.Pieces.{total-none, total-more, total-same}
+use Rattle.blocks.proofs.Pieces.{total-none, total-more}
 use Rattle.blocks.proofs.Fair.{Fits}
 use Rattle.blocks.proofs.Counts.{blocks-exact, blocks-nothing, full-last}
 
@@ -88,12 +88,3 @@ module _ (E : Edition) (kind : ℕ) (F : Form) (fits : Fits F) (f : List ℕ) (f
           let x = blocks-less b in
           let z : i ≡ q = omega arith in
           rw z (omega (arith, x .count, x .here .records .fits))
-
--- blocks of another file that are the same
-pub blocks-same : (E : Edition) (kind : ℕ) (F : Form) (f g : List ℕ) (first q n : ℕ) → ((i : ℕ) → i < q → blockAt f (first + i) ≡ blockAt g (first + i))
-    → Blocks E kind F f first q n → Blocks E kind F g first q n
-blocks-same E kind F f g first q n e b = record {
-  each = λ i h. rw (← e i h) (b .each i h);
-  full = λ i h. rw (← e i (omega arith)) (b .full i h);
-  count = sym (total-same q (λ i. countAt f (first + i)) (λ i. countAt g (first + i)) (λ i h. ap (λ t. sixteen t 2) (e i h))) ∙ b .count;
-}

@@ -8,7 +8,8 @@ use lib.ListN.{length}
 use Rattle.words.specs.Table.{at}
 use Rattle.blocks.specs.Bytes.{le, Under}
 use Rattle.blocks.specs.Edition.{Form, Edition}
-use Rattle.blocks.specs.File.{most-words, most-rules, ProperFile}
+use Rattle.rules.specs.ProperProblem.{most-words, most-rules}
+use Rattle.blocks.specs.File.{ProperFile}
 use Rattle.blocks.specs.Written.{held, blocksOf, wordBlocks, ruleBlocks, fileOf}
 use Rattle.blocks.proofs.Under.{under-append, under-block, under-flat, under-le}
 use Rattle.blocks.proofs.Fair.{Fair}

@@ -1,4 +1,4 @@
--- A block of records, and an end block, as document 01 says them, are just the blocks of those bytes.
+-- A block of records, and an end block, as the paper says them, are just the blocks of those bytes.
 -- Assumes nothing.
 use mathlib.Core.Path.{_≡_, sym, ap, _∙_, subst}
 use mathlib.Core.List.{List, _++_}

@@ -9,7 +9,8 @@ use lib.ListN.{length}
 use Rattle.blocks.specs.Bytes.{Under}
 use Rattle.blocks.specs.Edition.{Edition}
 use Rattle.blocks.specs.Block.{RecordBlock, EndBlock}
-use Rattle.blocks.specs.File.{blockAt, countAt, most-words, most-rules, Blocks, ProperFile}
+use Rattle.rules.specs.ProperProblem.{most-words, most-rules}
+use Rattle.blocks.specs.File.{blockAt, countAt, Blocks, ProperFile}
 use Rattle.blocks.specs.Machine.{Run, start, more-words, more-rules, Ended, end}
 use Rattle.blocks.proofs.Pieces.{total-none}
 use Rattle.blocks.proofs.Fair.{Fair}

@@ -4,6 +4,7 @@ use mathlib.Core.Path.{_≡_}
 use mathlib.Core.List.{List}
 use Prim.Native.Nat.{ℕ, suc, _+_, _*_, _/_, _%_, _<_, _≤_}
 use lib.ListN.{length}
+use Rattle.rules.specs.ProperProblem.{most-words, most-rules}
 use Rattle.blocks.specs.Bytes.{part, total, Under}
 use Rattle.blocks.specs.Edition.{Form, Edition}
 use Rattle.blocks.specs.Block.{sixteen, Sound, RecordBlock, EndBlock}
@@ -16,12 +17,12 @@ blockAt f i = part f (512 * i) 512
 abbrev pub countAt : List ℕ → ℕ → ℕ
 countAt f i = sixteen (blockAt f i) 2
 
--- the totals of a file
-abbrev pub most-words : ℕ
-most-words = 32
+-- the numbers of the refusals of a file's blocks
+abbrev pub CHECK : ℕ
+CHECK = 2
 
-abbrev pub most-rules : ℕ
-most-rules = 252
+abbrev pub LAYOUT : ℕ
+LAYOUT = 3
 
 module _ (E : Edition) where
   -- q blocks of one kind, from block `first` on, hold n records; each but the last is full
@@ -62,6 +63,6 @@ module _ (E : Edition) where
   -- The number and the place of a file's refusal. Block by block: 2 where its sum is wrong, else 3 where it is the first that, with those before it,
   -- cannot begin a proper file; and where there is no such block, 3 at the last block if it is not an end block
   pub data Fault (f : List ℕ) : ℕ → ℕ → Type 0 where
-    check : {i : ℕ} → i < length f / 512 → Begins f i → ¬ Sound (blockAt f i) → Fault f 2 i
-    layout : {i : ℕ} → i < length f / 512 → Begins f i → Sound (blockAt f i) → ¬ Begins f (suc i) → Fault f 3 i
-    last : {i : ℕ} → suc i ≡ length f / 512 → Begins f (suc i) → ((limit : ℕ) → ¬ EndBlock E i limit (blockAt f i)) → Fault f 3 i
+    check : {i : ℕ} → i < length f / 512 → Begins f i → ¬ Sound (blockAt f i) → Fault f CHECK i
+    layout : {i : ℕ} → i < length f / 512 → Begins f i → Sound (blockAt f i) → ¬ Begins f (suc i) → Fault f LAYOUT i
+    last : {i : ℕ} → suc i ≡ length f / 512 → Begins f (suc i) → ((limit : ℕ) → ¬ EndBlock E i limit (blockAt f i)) → Fault f LAYOUT i

@@ -5,7 +5,8 @@ use mathlib.Core.List.{List}
 use Prim.Native.Nat.{ℕ, suc, _+_, _%_, _≤_}
 use Rattle.blocks.specs.Edition.{Edition}
 use Rattle.blocks.specs.Block.{WordsBlock, RulesBlock, EndBlock}
-use Rattle.blocks.specs.File.{blockAt, most-words, most-rules}
+use Rattle.rules.specs.ProperProblem.{most-words, most-rules}
+use Rattle.blocks.specs.File.{blockAt}
 
 module _ (E : Edition) (f : List ℕ) where
   -- after i blocks, none of them an end block: a words block may come where no rules were yet, and after full blocks of its kind only

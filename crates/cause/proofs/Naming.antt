@@ -25,7 +25,7 @@ abbrev RulesHold : List ℕ → List ℕ → List ℕ → List ℕ → Type 0
 RulesHold ws bs out = AllHold (widthsOf ws) (map (rule (rulesOf bs)) out)
 
 module _ {limit : ℕ} {ws bs s l : List ℕ} {g k : ℕ} {s′ l′ : List ℕ} (c : Causing limit ws bs s l (answer.Cause g k) s′ l′) where
-  -- the first k entries are the cause of document 01's procedure, and g its sum
+  -- the first k entries are the cause of the paper's procedure, and g its sum
   pub cause-listed : Named limit ws bs (CAUSE (take k s′) g)
   cause-listed = go c
     where

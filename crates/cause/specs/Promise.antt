@@ -27,7 +27,7 @@ refusalHere limit ws bs s l = room workLength (length l) (room (ruleCount bs) (l
 pub record Given (limit : ℕ) (ws bs s l : List ℕ) : Type 0 where
   pub passed : refusalHere limit ws bs s l ≡ Ok
 
--- what document 01's procedure comes to for the lent problem
+-- what the paper's procedure comes to for the lent problem
 abbrev pub Named : ℕ → List ℕ → List ℕ → Cause → Type 0
 Named limit ws bs x = Causes (widthsOf ws) (rulesOf bs) limit (tableOf ws) x
 

@@ -28,6 +28,9 @@ struct Trimmed {
     kept: usize,
 }
 
+// The refusal of a cause without any rule, which is proved never to come.
+const EMPTY: u64 = 11;
+
 // The numbers of work memory that a cause needs.
 pub const WORK: usize = 5120;
 
@@ -45,14 +48,14 @@ pub fn trials(
     ensures { λ r. ⌜ Causing limit (now (words .entry)) (now (rules .entry)) (now (list .entry)) (now (work .entry)) r (now (list .exit))
         (now (work .exit)) ⌝ }
 {
-    tighten::buffer::list_all(work, rules.len() / 6);
+    tighten::buffer::list_all(work, rules.len() / checker::FIELDS);
     let t = dropping::trim(work, words, rules, limit, first);
     if !t.decided {
         tighten::buffer::clear(work);
         return Caused::GaveUp(t.sum);
     }
     if t.kept == 0 {
-        return Caused::Refused(11, 0);
+        return Caused::Refused(EMPTY, 0);
     }
     list::give(list, work, t.kept);
     tighten::buffer::clear(work);
@@ -71,7 +74,7 @@ fn cause_proper(
     ensures { λ r. ⌜ Causing limit (now (words .entry)) (now (rules .entry)) (now (list .entry)) (now (work .entry)) r (now (list .exit))
         (now (work .exit)) ⌝ }
 {
-    let c = rules.len() / 6;
+    let c = rules.len() / checker::FIELDS;
     tighten::buffer::list_all(work, c);
     match searcher::search_problem(work, words, rules, c, limit) {
         searcher::Answer::Found(count) => {
@@ -94,10 +97,10 @@ pub fn cause(words: &[u64], rules: &[u8], limit: u32, list: &mut [u16], work: &m
         (now (work .exit)) ⌝ }
 {
     if work.len() < WORK {
-        return Caused::Refused(1, 0);
+        return Caused::Refused(checker::SIZE, 0);
     }
-    if list.len() < rules.len() / 6 {
-        return Caused::Refused(1, 0);
+    if list.len() < rules.len() / checker::FIELDS {
+        return Caused::Refused(checker::SIZE, 0);
     }
     let x = checker::check(words, rules, limit);
     if let checker::Checked::Refused(number, place) = x {

@@ -1,1 +1,1 @@
-// Causes: which rules are in the way. Definitions in specs/, laws in proofs/. There is no code here yet that runs.
+// Causes: which rules are in the way. Definitions in specs/, laws in proofs/. There is no code here that runs.

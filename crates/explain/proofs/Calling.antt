@@ -22,17 +22,17 @@ use Rattle.explain.specs.declared.Explained.{Explained}
 use Rattle.explain.specs.declared.Explained.the-variants as explained
 use Rattle.explain.specs.Asking.{shapeIn, placeIn, answer}
 use Rattle.explain.specs.Dropping.{Reasoned}
-use Rattle.explain.specs.Promise.{entries, refusalHere, Given, Taken, Judged, not-asked, Explaining, refused, judged}
+use Rattle.explain.specs.Promise.{entries, refusalHere, Explanation, Taken, Judged, not-asked, Explaining, refused, judged}
 use Rattle.explain.proofs.Answers.{conflict-free, forced-free}
 
 -- ---- the answer for an open bit
 
 module _ (q : Question) (t : Bounds) {x : Said} (s : Says (shapeIn q) (spanOf t) (placeIn q) (q .bit) (answer x)) (l : List ℕ) where
-  pub given-free : x ≡ said.Free → Given (shapeIn q) (spanOf t) (placeIn q) (q .bit) l explained.Free l
+  pub given-free : x ≡ said.Free → Explanation (shapeIn q) (spanOf t) (placeIn q) (q .bit) l explained.Free l
   given-free e = record { answer = FREE; out = []; explains = no-reason (rw e at s); told = refl; list = refl }
 
   module _ {c : ℕ} {m : List ℕ} (r : Reasoned q x t l c m) where
-    pub given-conflict : x ≡ said.Conflict → Given (shapeIn q) (spanOf t) (placeIn q) (q .bit) l (explained.Conflict c) m
+    pub given-conflict : x ≡ said.Conflict → Explanation (shapeIn q) (spanOf t) (placeIn q) (q .bit) l (explained.Conflict c) m
     given-conflict e = record {
       answer = CONFLICT;
       out = r .out;
@@ -41,7 +41,7 @@ module _ (q : Question) (t : Bounds) {x : Said} (s : Says (shapeIn q) (spanOf t)
       list = r .list;
     }
 
-    pub given-forced : (b : ℕ) → x ≡ said.Forced b → Given (shapeIn q) (spanOf t) (placeIn q) (q .bit) l (explained.Forced b c) m
+    pub given-forced : (b : ℕ) → x ≡ said.Forced b → Explanation (shapeIn q) (spanOf t) (placeIn q) (q .bit) l (explained.Forced b c) m
     given-forced b e = record {
       answer = FORCED b;
       out = r .out;

@@ -13,9 +13,9 @@ use Rattle.checker.specs.declared.Checked.the-variants.{Ok, Refused}
 use Rattle.reasons.proofs.One.{one-explanation}
 use Rattle.explain.specs.declared.Explained.{Explained}
 use Rattle.explain.specs.Dropping.{written}
-use Rattle.explain.specs.Promise.{given, Given, Judged, not-asked, answered, Explaining, refused, judged}
+use Rattle.explain.specs.Promise.{given, Explanation, Judged, not-asked, answered, Explaining, refused, judged}
 
-given-once : {σ : Shape} {t : Span} {p : Place} {j : ℕ} {l m k : List ℕ} {x y : Explained} → Given σ t p j l x m → Given σ t p j l y k
+given-once : {σ : Shape} {t : Span} {p : Place} {j : ℕ} {l m k : List ℕ} {x y : Explained} → Explanation σ t p j l x m → Explanation σ t p j l y k
     → (x ≡ y) × (m ≡ k)
 given-once {l = l} g h =
     let (e, o) = one-explanation (g .explains) (h .explains) in (

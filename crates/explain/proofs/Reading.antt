@@ -25,7 +25,7 @@ use Rattle.explain.specs.declared.Explained.{Explained}
 use Rattle.explain.specs.declared.Explained.the-variants as explained
 use Rattle.explain.specs.Asking.{shapeIn, placeIn, OpenBit, Asks}
 use Rattle.explain.specs.Reading.{widthsIn, boundsIn, questionIn}
-use Rattle.explain.specs.Promise.{Given, Taken, Judged, not-asked, answered}
+use Rattle.explain.specs.Promise.{Explanation, Taken, Judged, not-asked, answered}
 
 pub question-read : (ws bs : List ℕ) (n p j : ℕ) (x : Widths) (κ k : ℕ)
     → x ≡ record { r = widthAt ws (ruleAt bs n .r); a = widthAt ws (ruleAt bs n .a); b = widthAt ws (ruleAt bs n .b); s = widthAt ws (ruleAt bs n .s) }
@@ -102,7 +102,7 @@ module _ {ws bs l : List ℕ} {n p j : ℕ} {q : Question} {t : Bounds} (k : Rea
       small = omega (arith, o .below, is-legal .width (placeIn q) (o .used) .high);
     }
 
-    pub open-judged : {r : Explained} {m : List ℕ} → Given (shapeIn q) (spanOf t) (placeIn q) (q .bit) l r m → Judged ws bs n p j l r m
+    pub open-judged : {r : Explained} {m : List ℕ} → Explanation (shapeIn q) (spanOf t) (placeIn q) (q .bit) l r m → Judged ws bs n p j l r m
     unfolding questionIn
     open-judged g =
         answered (record { there = k .there; open-bit = rw (shape-same, span-same, k .question) at o }) (rw (shape-same, span-same, k .question) at g)

@@ -24,7 +24,7 @@ use Rattle.explain.specs.declared.Explained.{Explained}
 use Rattle.explain.specs.declared.Explained.the-variants as explained
 use Rattle.explain.specs.Places.{placeOf}
 use Rattle.explain.specs.Dropping.{written}
-use Rattle.explain.specs.Promise.{entries, given, Given, Taken, Tells, tells-conflict}
+use Rattle.explain.specs.Promise.{entries, given, Explanation, Taken, Tells, tells-conflict}
 use Rattle.explain.specs.Promise.{tells-forced, Judged, not-asked, answered, Explaining, refused, judged}
 use Rattle.explain.proofs.Calling.{here-taken}
 
@@ -95,7 +95,7 @@ told-free CONFLICT k e = let z : _≡_ {A = ℕ} 0 1 = cc in absurd (omega arith
 told-free (FORCED b) k e = let z : _≡_ {A = ℕ} 0 1 = cc in absurd (omega arith)
 told-free FREE k e = refl
 
-given-free : {σ : Shape} {t : Span} {p : Place} {j : ℕ} {l m : List ℕ} → Given σ t p j l explained.Free m → m ≡ l
+given-free : {σ : Shape} {t : Span} {p : Place} {j : ℕ} {l m : List ℕ} → Explanation σ t p j l explained.Free m → m ≡ l
 given-free {l = l} g =
     let none : g .out ≡ [] = free-reason (rw (told-free (g .answer) (length (g .out)) (g .told)) at (g .explains)) in
     g .list ∙ ap (λ (w : List ℕ). written w l) none

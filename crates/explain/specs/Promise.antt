@@ -26,6 +26,10 @@ use Rattle.explain.specs.Dropping.{written}
 abbrev pub entries : ℕ
 entries = 193
 
+-- the number of the refusal of a question
+abbrev pub ASK : ℕ
+ASK = 10
+
 -- refusal 1 for a list that is too short, then the refusals of the problem
 unfoldable pub refusalHere : List ℕ → List ℕ → List ℕ → Checked
 refusalHere ws bs l = room entries (length l) (refusal ws bs)
@@ -42,7 +46,7 @@ pub data Tells : Explained → Answer → ℕ → Type 0 where
   tells-forced : {b c : ℕ} → Tells (explained.Forced b c) (FORCED b) c
 
 -- the rule of shape σ over the bounds t is explained at bit j of place p: r comes back, and m stands in the list l afterwards
-pub record Given (σ : Shape) (t : Span) (p : Place) (j : ℕ) (l : List ℕ) (r : Explained) (m : List ℕ) : Type 0 where
+pub record Explanation (σ : Shape) (t : Span) (p : Place) (j : ℕ) (l : List ℕ) (r : Explained) (m : List ℕ) : Type 0 where
   pub answer : Answer
   pub out : List ℕ
   pub explains : Explains σ t p j answer out
@@ -57,15 +61,15 @@ pub record Taken (ws bs l : List ℕ) : Type 0 where
 
 module _ (ws bs : List ℕ) (n p j : ℕ) where
   -- there is a rule n, and bit j of its place p is open in the table as given
-  pub record Asked : Type 0 where
+  pub record AsksOpenBit : Type 0 where
     pub there : n < ruleCount bs
     pub open-bit : OpenBit (shape (widthsOf ws) (rule (rulesOf bs) n)) (span (tableOf ws) (rule (rulesOf bs) n)) p j
 
   -- over a proper problem: refusal 10 where the question names no open bit, else what the rule says of the bit, over the table as given
   pub data Judged (l : List ℕ) : Explained → List ℕ → Type 0 where
-    not-asked : ¬ Asked → Judged l (explained.Refused 10 0) l
-    answered : {r : Explained} {m : List ℕ} → Asked
-        → Given (shape (widthsOf ws) (rule (rulesOf bs) n)) (span (tableOf ws) (rule (rulesOf bs) n)) (placeOf p) j l r m → Judged l r m
+    not-asked : ¬ AsksOpenBit → Judged l (explained.Refused ASK 0) l
+    answered : {r : Explained} {m : List ℕ} → AsksOpenBit
+        → Explanation (shape (widthsOf ws) (rule (rulesOf bs) n)) (span (tableOf ws) (rule (rulesOf bs) n)) (placeOf p) j l r m → Judged l r m
 
   -- words ws, rules bs and the list l were lent; r comes back, and m stands in the list afterwards
   pub data Explaining (l : List ℕ) : Explained → List ℕ → Type 0 where

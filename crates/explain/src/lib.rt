@@ -9,7 +9,7 @@ ghost use Prim.Native.Nat.{_≤_};
 ghost use lib.ListN.{length};
 ghost use Rattle.hull.specs.Narrowing.{spanOf};
 ghost use Rattle.explain.specs.Asking.{shapeIn, placeIn, Asks};
-ghost use Rattle.explain.specs.Promise.{entries, Given, Taken, Judged, Explaining};
+ghost use Rattle.explain.specs.Promise.{entries, Explanation, Taken, Judged, Explaining};
 
 // A question: the kind and number of a rule, the widths of its places, and the place and the bit that are asked for.
 struct Question {
@@ -50,7 +50,7 @@ const ASK: u64 = 10;
 // The answer for an open bit, its reason listed. FREE has none, and leaves the list as it was.
 fn answered(list: &mut [u16], q: Question, t: hull::Bounds) -> Explained
     requires { ⌜ Asks q t × (entries ≤ length (now list)) ⌝ }
-    ensures { λ r. ⌜ Given (shapeIn q) (spanOf t) (placeIn q) (q .bit) (now (list .entry)) r (now (list .exit)) ⌝ }
+    ensures { λ r. ⌜ Explanation (shapeIn q) (spanOf t) (placeIn q) (q .bit) (now (list .entry)) r (now (list .exit)) ⌝ }
 {
     let o = hull::narrow(q.kind as usize, q.k, q.w, t);
     let x = saying::said_by(q, o);

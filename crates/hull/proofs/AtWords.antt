@@ -1,15 +1,12 @@
 -- A rule over the words of a table: its narrowing is asked, and promises, what the rule's places in the table are asked and promise.
 -- Assumes nothing.
-use mathlib.Core.Path.{_≡_, refl, sym, subst, fun-ext}
+use mathlib.Core.Path.{_≡_, refl, fun-ext}
 use mathlib.Core.List.{List}
 use Prim.Native.Nat.{ℕ}
 use Rattle.words.specs.Table.{Table, at}
 use Rattle.rules.specs.Kinds.{Place, R, A, B, S, kindOf}
-use Rattle.rules.specs.Meaning.{Shape}
-use Rattle.rules.specs.Fits.{Span, Legal}
 use Rattle.rules.specs.Tight.{Rule, word, shape, span}
-use Rattle.hull.specs.declared.Narrowed.{Narrowed}
-use Rattle.hull.specs.Narrowing.{shapeOf, spanOf, loOf, hiOf, widthOf, Narrows}
+use Rattle.hull.specs.Narrowing.{shapeOf, spanOf, loOf, hiOf, widthOf}
 use Rattle.hull.specs.InTable.{widthsAt, boundsAt}
 
 module _ (w : List ℕ) (t : Table) (ρ : Rule) where
@@ -36,10 +33,3 @@ module _ (w : List ℕ) (t : Table) (ρ : Rule) where
 
   pub span-at : spanOf (boundsAt t ρ) ≡ span t ρ
   span-at = λ i. record { lo = fun-ext low-at i; hi = fun-ext high-at i }
-
-  pub legal-at : Legal (shape w ρ) (span t ρ) → Legal (shapeOf (ρ .kind) (ρ .k) (widthsAt w ρ)) (spanOf (boundsAt t ρ))
-  legal-at l = subst (λ (σ : Shape). Legal σ (spanOf (boundsAt t ρ))) (sym shape-at) (subst (Legal (shape w ρ)) (sym span-at) l)
-
-  pub narrows-at : (o : Narrowed) → Narrows (shapeOf (ρ .kind) (ρ .k) (widthsAt w ρ)) (spanOf (boundsAt t ρ)) o → Narrows (shape w ρ) (span t ρ) o
-  narrows-at o x =
-      subst (λ (s : Span). Narrows (shape w ρ) s o) span-at (subst (λ (σ : Shape). Narrows σ (spanOf (boundsAt t ρ)) o) shape-at x)

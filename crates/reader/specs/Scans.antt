@@ -6,7 +6,8 @@ use Prim.Native.Nat.{ℕ, suc, _+_, _%_, _≤_}
 use Rattle.blocks.specs.declared.Problem.{Problem}
 use Rattle.blocks.specs.Edition.{edition1}
 use Rattle.blocks.specs.Block.{WordsBlock, RulesBlock, EndBlock}
-use Rattle.blocks.specs.File.{most-words, most-rules, ProperFile, Whole, Fault}
+use Rattle.rules.specs.ProperProblem.{most-words, most-rules}
+use Rattle.blocks.specs.File.{ProperFile, Whole, Fault}
 use Rattle.blocks.specs.Machine.{Run, Ended}
 use Rattle.reader.specs.declared.Step.{Step}
 use Rattle.reader.specs.declared.State.{State}

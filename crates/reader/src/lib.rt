@@ -14,15 +14,7 @@ ghost use Rattle.blocks.specs.Edition.{edition1};
 ghost use Rattle.blocks.specs.File.{ProperFile};
 ghost use Rattle.blocks.specs.Promise.{Room, Reads};
 
-// Numbers a word: width, lo, hi.
-const STRIDE: usize = 3;
-
-// Bytes a rule: kind, r, a, b, s, k.
-const FIELDS: usize = 6;
-
 // The numbers of the refusals.
-const SIZE: u64 = 1;
-
 const CHECK: u64 = 2;
 
 const LAYOUT: u64 = 3;
@@ -85,11 +77,11 @@ pub fn read(file: &[u8], words: &mut [u64], rules: &mut [u8]) -> Reading
         Reads edition1 (now (file .entry)) (now (words .entry)) (now (rules .entry)) (now (words .exit)) (now (rules .exit)) r
         ⌝ }
 {
-    if words.len() / STRIDE < 32 {
-        return Reading::Refused(SIZE, 0);
+    if words.len() / checker::STRIDE < 32 {
+        return Reading::Refused(checker::SIZE, 0);
     }
-    if rules.len() / FIELDS < 252 {
-        return Reading::Refused(SIZE, 0);
+    if rules.len() / checker::FIELDS < 252 {
+        return Reading::Refused(checker::SIZE, 0);
     }
     let s = scan_file(file);
     match s {

@@ -2,13 +2,13 @@
 use crate::Body;
 use crate::CHECK;
 use crate::LAYOUT;
-use crate::SIZE;
 use crate::Scan;
 use crate::State;
 use crate::Step;
 use crate::Turn;
 use crate::block::body_of;
 use blocks::Problem;
+use checker::SIZE;
 ghost use mathlib.Core.Path.{_≡_};
 ghost use Prim.Native.Nat.{_+_, _*_, _≤_};
 ghost use lib.ListN.{length};

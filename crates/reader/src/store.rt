@@ -1,8 +1,8 @@
 // The words and rules of a proper file: where they stand, how they are stored, and refusals 4 to 9.
-use crate::FIELDS;
-use crate::STRIDE;
 use crate::block::load;
 use checker::Checked;
+use checker::FIELDS;
+use checker::STRIDE;
 ghost use mathlib.Core.Path.{_≡_};
 ghost use Prim.Native.Nat.{_+_, _*_, _<_, _≤_};
 ghost use lib.ListN.{length};

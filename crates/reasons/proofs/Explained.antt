@@ -14,7 +14,6 @@ use Rattle.reasons.specs.Says.{Answer, CONFLICT, FORCED, FREE, Says}
 use Rattle.reasons.specs.Reason.{Spot, spot, entry, cleared, filled, placed, opened, Reason, all-seen, dropped, kept}
 use Rattle.reasons.specs.Reason.{fixedBit, fixedFrom, fixedAt, fixedOf}
 use Rattle.reasons.specs.Reason.{Explains, no-reason, with-reason}
-use Rattle.reasons.proofs.One.{one-explanation}
 use Rattle.reasons.proofs.Opened.{opened-legal}
 use Rattle.reasons.proofs.Rising.{Rising, no-more, next, fixed-rising}
 use Rattle.reasons.proofs.Answered.{answerOf, answer-right, answer-only, sameb, same-sound, same-refl}
@@ -74,7 +73,3 @@ module _ {σ : Shape} {t : Span} {p : Place} (legal : Legal σ t) (u : Uses σ p
       go CONFLICT s = given CONFLICT (λ e. let z : _≡_ {A = ℕ} 0 1 = cc in omega arith) s
       go (FORCED b) s = given (FORCED b) (λ e. let z : _≡_ {A = ℕ} 0 1 = cc in omega arith) s
       go FREE s = no-reason s
-
-  -- and no other explanation is allowed
-  pub explained-only : {x : Answer} {out : List ℕ} → Explains σ t p j x out → (x ≡ explained σ t p j .0) × (out ≡ explained σ t p j .1)
-  explained-only e = one-explanation e explained-right

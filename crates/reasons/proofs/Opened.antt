@@ -12,7 +12,7 @@ use borrow.Author.Tests.{eqb-true, ne-eqb}
 use Rattle.words.specs.Bits.{bit, _⊑_}
 use Rattle.words.specs.Word.{Bounded}
 use Rattle.words.proofs.Order.{⊑-refl, ⊑-trans, bit-cases}
-use Rattle.words.proofs.OneBit.{set-same, set-other, clear-same, clear-other, clear-⊑, ⊑-clear, ⊑-set, set-⊑}
+use Rattle.words.proofs.OneBit.{set-same, clear-same, clear-⊑, ⊑-clear, ⊑-set, set-⊑}
 use Rattle.words.proofs.Single.{set-lt}
 use Rattle.rules.specs.Kinds.{Place, R, A, B, S}
 use Rattle.rules.specs.Meaning.{Shape}
@@ -45,12 +45,6 @@ module _ (n b : ℕ) where
 
   pub filled-same : bit (filled n b) b ≡ 1
   filled-same = filled-by (λ x. bit x b ≡ 1) (set-same b n) (λ o. o)
-
-  pub cleared-other : (k : ℕ) → k ≢ b → bit (cleared n b) k ≡ bit n k
-  cleared-other k d = cleared-by (λ x. bit x k ≡ bit n k) (λ z. refl) (λ o. clear-other b n k o d)
-
-  pub filled-other : (k : ℕ) → k ≢ b → bit (filled n b) k ≡ bit n k
-  filled-other k d = filled-by (λ x. bit x k ≡ bit n k) (λ z. set-other b n k z d) (λ o. refl)
 
   pub cleared-⊑ : cleared n b ⊑ n
   cleared-⊑ = cleared-by (λ x. x ⊑ n) (λ z. ⊑-refl n) (clear-⊑ b n)

@@ -11,7 +11,7 @@ use Rattle.lines.proofs.Appends.{appended-both}
 use Rattle.blocks.specs.Bytes.{flat}
 use Rattle.blocks.proofs.Pieces.{flat-same}
 use Rattle.report.specs.Text.{items, line, SAT, UNSAT, UNKNOWN, CAUSE, REFUSED, wordLine, causeLine, wordLines, textOf}
-use Rattle.report.specs.Text.{Cause, named, unnamed, sat, unsat, unknown, refused}
+use Rattle.report.specs.Text.{ToldCause, named, unnamed, sat, unsat, unknown, refused}
 use Rattle.report.specs.Printed.{Printed}
 use Rattle.report.proofs.Puts.{spaced-items, pieces-end, printed}
 
@@ -53,7 +53,7 @@ pub sat-put : {l p m : List ℕ} {e r : ℕ} (count : ℕ) (widths values : List
 unfolding textOf
 sat-put count widths values f g = printed (sat count widths values) (appended-both f g)
 
-pub unsat-put : {l p m : List ℕ} {e r : ℕ} (count : ℕ) (cause : Cause) → Appended l 0 (line UNSAT (map decimal (count ∷ []))) p e
+pub unsat-put : {l p m : List ℕ} {e r : ℕ} (count : ℕ) (cause : ToldCause) → Appended l 0 (line UNSAT (map decimal (count ∷ []))) p e
     → Appended p e (causeLine cause) m r → Printed (unsat count cause) l m r
 unfolding textOf
 unsat-put count cause f g = printed (unsat count cause) (appended-both f g)

@@ -6,6 +6,7 @@ use Prim.Native.Nat.{ℕ, _≤_}
 use lib.ListN.{length}
 use Rattle.checker.specs.declared.Checked.{Checked}
 use Rattle.checker.specs.Lent.{widthsOf}
+use Rattle.checker.specs.Demands.{SIZE, number}
 use Rattle.tighten.specs.Memory.{Cleared}
 use Rattle.search.specs.Search.{found, none, gave-up}
 use Rattle.causes.specs.Cause.{CAUSE, GAVE-UP}
@@ -59,5 +60,5 @@ pub data Reports (f : List ℕ) : Report → Type 0 where
 
 -- bytes l and work memory k were lent with the file f; the answer is r, and m and n stand in bytes and memory afterwards
 pub data Advises (f l k : List ℕ) : Advised → List ℕ → List ℕ → Type 0 where
-  size : ¬ Lent l k → Advises f l k (answer.Refused 1 0) l k
+  size : ¬ Lent l k → Advises f l k (answer.Refused (number SIZE) 0) l k
   lines : {x : Report} {m n : List ℕ} {e : ℕ} → Lent l k → Reports f x → Printed x l m e → Cleared k n → Advises f l k (answer.Lines e) m n

@@ -43,18 +43,18 @@ abbrev pub wordLine : ℕ → ℕ → ℕ → List ℕ
 wordLine i w v = line (decimal i) (decimal w ∷ binary w v ∷ [])
 
 -- the cause: the summed count and the rule numbers; or unknown, with the sum
-pub data Cause : Type 0 where
-  named : ℕ → List ℕ → Cause
-  unnamed : ℕ → Cause
+pub data ToldCause : Type 0 where
+  named : ℕ → List ℕ → ToldCause
+  unnamed : ℕ → ToldCause
 
 -- an answer, with what is printed of it: the guess count, widths and values; the guess count and the cause; the guess count; number and place
 pub data Report : Type 0 where
   sat : ℕ → List ℕ → List ℕ → Report
-  unsat : ℕ → Cause → Report
+  unsat : ℕ → ToldCause → Report
   unknown : ℕ → Report
   refused : ℕ → ℕ → Report
 
-unfoldable pub causeLine : Cause → List ℕ
+unfoldable pub causeLine : ToldCause → List ℕ
 causeLine (named sum rules) = line CAUSE (decimal sum ∷ map decimal rules)
 causeLine (unnamed sum) = line CAUSE (UNKNOWN ∷ decimal sum ∷ [])
 

@@ -20,12 +20,6 @@ pub enum Advised {
     Refused(u64, u64),
 }
 
-// Numbers a word: width, lo, hi.
-const STRIDE: usize = 3;
-
-// Bytes a rule: kind, r, a, b, s, k.
-const FIELDS: usize = 6;
-
 // Bytes that always do for a report.
 pub const MOST: usize = 2304;
 
@@ -71,10 +65,10 @@ pub fn advise(file: &[u8], out: &mut [u8], work: &mut [u64]) -> Advised
     ensures { λ r. ⌜ Advises (now (file .entry)) (now (out .entry)) (now (work .entry)) r (now (out .exit)) (now (work .exit)) ⌝ }
 {
     if out.len() < MOST {
-        return Advised::Refused(1, 0);
+        return Advised::Refused(checker::SIZE, 0);
     }
     if work.len() < cause::WORK {
-        return Advised::Refused(1, 0);
+        return Advised::Refused(checker::SIZE, 0);
     }
     let mut words = [0; 96];
     let mut rules = [0; 1512];
@@ -84,8 +78,8 @@ pub fn advise(file: &[u8], out: &mut [u8], work: &mut [u64]) -> Advised
             Advised::Lines(put_refused(out, number, place))
         }
         Reading::Ok(x) => {
-            let w = STRIDE * x.words;
-            let r = FIELDS * x.rules;
+            let w = checker::STRIDE * x.words;
+            let r = checker::FIELDS * x.rules;
             Advised::Lines(tell(&words[..w], &rules[..r], x.limit, out, work))
         }
     }

@@ -1,9 +1,9 @@
 // The report of each answer, put into lent bytes as lines. 2,304 bytes always do: 32 lines of at most 71 bytes and a first one of at most 25, or two lines
 // with at most 252 rule numbers of at most 6 bytes each.
-use crate::STRIDE;
 use crate::line::put_entries;
 use crate::line::put_line;
 use crate::line::put_word;
+use checker::STRIDE;
 ghost use Prim.Native.Nat.{_+_, _*_, _≤_};
 ghost use lib.ListN.{length, take};
 ghost use Rattle.checker.specs.Lent.{wordCount, widthsOf};

@@ -1,11 +1,11 @@
 -- A table without open bits is tight just where its values make all rules hold; and tight tables under more rules, or under the same in another order.
 -- Assumes nothing.
-use mathlib.Core.Path.{_≡_, subst}
+use mathlib.Core.Path.{_≡_}
 use mathlib.Core.List.{List}
 use Prim.Native.Nat.{ℕ, _<_}
 use lib.ListN.{length}
 use Rattle.words.specs.Table.{Table, point}
-use Rattle.rules.specs.Tight.{Rule, HoldsAt, Tight, AllHold, rule}
+use Rattle.rules.specs.Tight.{Rule, Tight, AllHold, rule}
 use Rattle.rules.proofs.Tight.{holds-tight, tight-holds}
 
 -- a fixed table is tight just where the rules hold
@@ -28,6 +28,3 @@ pub record Listed (rs rs′ : List Rule) : Type 0 where
 module _ {w : List ℕ} {rs rs′ : List Rule} (e : Listed rs rs′) where
   pub tight-listed : (t : Table) → Tight w rs′ t → Tight w rs t
   tight-listed t h = record { each = λ n l. rw (e .equal n l) at (h .each (e .number n l) (e .reached n l)) }
-
-  pub hold-listed : (v : List ℕ) → AllHold w rs′ v → AllHold w rs v
-  hold-listed v h = record { each = λ n l. subst (HoldsAt w v) (e .equal n l) (h .each (e .number n l) (e .reached n l)) }

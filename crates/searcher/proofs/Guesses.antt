@@ -20,7 +20,7 @@ use Rattle.words.proofs.Single.{top-open}
 use Rattle.tighten.specs.Memory.{tableIn}
 use Rattle.tighten.proofs.Memory.{take-set-lt, drop-set-add, low-at, high-at, highs}
 use Rattle.trail.specs.Trail.{copied, Moved}
-use Rattle.searcher.specs.Guessing.{copyIn, topAt, zeroAt, oneAt, Lowest, Fixable, firstOf, secondOf, Copied, Second}
+use Rattle.searcher.specs.Guessing.{copyIn, topAt, zeroAt, oneAt, Lowest, Fixable, zeroFixed, oneFixed, Copied, Second}
 use Rattle.searcher.proofs.Tables.{table-as, copy-low, copy-high, copy-lows, copy-highs}
 
 -- numbers that differ have a bit that differs
@@ -59,16 +59,16 @@ module _ (n : ℕ) (l : List ℕ) (i : ℕ) (below : i < n) (most : n ≤ 32) wh
   bit-at : topAt (tableIn n l) i ≡ topOpen (at l i) (at l (i + 32))
   bit-at = rw (low-at n l i below, high-at n l i below)
 
-  pub first-table : tableIn n (firstOf l i) ≡ zeroAt (tableIn n l) i
-  unfolding firstOf tableIn with0
+  pub first-table : tableIn n (zeroFixed l i) ≡ zeroAt (tableIn n l) i
+  unfolding zeroFixed tableIn with0
   first-table =
       table-path
       (take-set-le n l (i + 32) _ (omega arith))
       (ap (take n) (drop-set-add 32 l i _) ∙ take-set-lt n (drop 32 l) i _ below
       ∙ ap (set (take n (drop 32 l)) i) (sym (rw bit-at (ap (λ x. x - 2 ^ topOpen (at l i) (at l (i + 32))) (high-at n l i below)))))
 
-  pub second-table : tableIn n (secondOf l i) ≡ oneAt (tableIn n l) i
-  unfolding secondOf tableIn with1
+  pub second-table : tableIn n (oneFixed l i) ≡ oneAt (tableIn n l) i
+  unfolding oneFixed tableIn with1
   second-table =
       table-path
       (take-set-lt n l i _ below
@@ -139,8 +139,8 @@ module _ {n : ℕ} {l : List ℕ} {i : ℕ} {k : List ℕ} (x : Copied n l i) (y
         differs = rw (lo, hi) at (x .differs);
       }
 
-  pub second-left : (m : List ℕ) → m ≡ secondOf k i → Second n l i m
-  unfolding secondOf
+  pub second-left : (m : List ℕ) → m ≡ oneFixed k i → Second n l i m
+  unfolding oneFixed
   second-left m e = record {
     size = ap length e ∙ length-set k i _ ∙ y .size;
     table = ap (tableIn n) e ∙ second-table n k i (x .word) (x .words) ∙ ap (λ t. oneAt t i) moved-table;

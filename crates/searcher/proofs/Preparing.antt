@@ -23,7 +23,7 @@ use Rattle.trail.proofs.Room.{room-left}
 use Rattle.search.specs.Search.{conflict, settled, stopped}
 use Rattle.search.proofs.Solved.{proper-short}
 use Rattle.searcher.specs.declared.Answer.the-variants.{Found, Nothing, GaveUp}
-use Rattle.searcher.specs.Guessing.{copyIn, topAt, zeroAt, Lowest, Fixable, firstOf}
+use Rattle.searcher.specs.Guessing.{copyIn, topAt, zeroAt, Lowest, Fixable, zeroFixed}
 use Rattle.searcher.specs.Searching.{TightIn, Frame, Begun, Searched, Guessed}
 use Rattle.searcher.proofs.Tables.{table-same, copy-low, copy-high, copy-as}
 use Rattle.searcher.proofs.Guesses.{first-table, lowest-done, lowest-fixable, lowest-guess}
@@ -111,17 +111,17 @@ module _ {ws bs l : List ℕ} {c b used limit : ℕ} (begun : Begun ws bs l c b 
               }
 
           -- only one number of the table changes
-          untouched : (q : ℕ) → 64 ≤ q → at (firstOf m i) q ≡ at m q
-          unfolding firstOf
+          untouched : (q : ℕ) → 64 ≤ q → at (zeroFixed m i) q ≡ at m q
+          unfolding zeroFixed
           untouched q h = getD-set-other m (i + 32) q _ 0 (omega (arith, below, most))
 
-          length-first : length (firstOf m i) ≡ length m
-          unfolding firstOf
+          length-first : length (zeroFixed m i) ≡ length m
+          unfolding zeroFixed
           length-first = length-set m (i + 32) _
 
-          new-copy : copyIn (wordCount ws) (firstOf m i) ≡ tableIn (wordCount ws) k
+          new-copy : copyIn (wordCount ws) (zeroFixed m i) ≡ tableIn (wordCount ws) k
           new-copy =
-              copy-as (wordCount ws) (firstOf m i) most (omega (arith, length-first, y .size, room)) (tableIn (wordCount ws) k)
+              copy-as (wordCount ws) (zeroFixed m i) most (omega (arith, length-first, y .size, room)) (tableIn (wordCount ws) k)
               (lows (wordCount ws) k most (omega (arith, room))) (highs (wordCount ws) k most (omega (arith, room)))
               (λ q h. untouched (316 + q) (omega arith) ∙ y .low q h ∙ sym (low-at (wordCount ws) k q h))
               (λ q h. untouched (316 + (q + 32)) (omega arith) ∙ y .high q h ∙ sym (high-at (wordCount ws) k q h))
@@ -129,7 +129,7 @@ module _ {ws bs l : List ℕ} {c b used limit : ℕ} (begun : Begun ws bs l c b 
           same-table : tableIn (wordCount ws) m ≡ tableIn (wordCount ws) k
           same-table = table-same (wordCount ws) k m most (omega (arith, room)) (y .size) (λ q h. y .below q (omega arith))
 
-          pub prepared-guess : used ≢ limit → Guessed ws bs c limit l b used i e (firstOf m i)
+          pub prepared-guess : used ≢ limit → Guessed ws bs c limit l b used i e (zeroFixed m i)
           prepared-guess d = record {
             widest = rw new-copy widest;
             guess = rw new-copy guess;
@@ -138,7 +138,7 @@ module _ {ws bs l : List ℕ} {c b used limit : ℕ} (begun : Begun ws bs l c b 
             size = length-first ∙ y .size ∙ size;
             list = λ q h g. untouched q h ∙ y .below q g ∙ frame .same q h (omega arith);
             trail = λ q h g. untouched q (omega arith) ∙ y .trail q h g ∙ frame .same q (omega arith) g;
-            back = λ q h. undone-same (e - b) b (firstOf m i) m (copied (firstOf m i)) (copied m) (λ p a g. untouched p (omega arith))
+            back = λ q h. undone-same (e - b) b (zeroFixed m i) m (copied (zeroFixed m i)) (copied m) (λ p a g. untouched p (omega arith))
                 (λ p a. untouched (316 + p) (omega arith)) q h ∙ y .back q h ∙ frame .same (316 + q) (omega arith) (omega arith);
             entries = omega (arith, y .count);
             room = rw new-copy

@@ -40,11 +40,11 @@ pub record Fixable (l : List ℕ) (i : ℕ) : Type 0 where
   pub differs : at l i ≢ at l (i + 32)
 
 -- its highest open bit fixed 0, and fixed 1
-unfoldable pub firstOf : List ℕ → ℕ → List ℕ
-firstOf l i = set l (i + 32) (at l (i + 32) - 2 ^ topOpen (at l i) (at l (i + 32)))
+unfoldable pub zeroFixed : List ℕ → ℕ → List ℕ
+zeroFixed l i = set l (i + 32) (at l (i + 32) - 2 ^ topOpen (at l i) (at l (i + 32)))
 
-unfoldable pub secondOf : List ℕ → ℕ → List ℕ
-secondOf l i = set l i (at l i + 2 ^ topOpen (at l i) (at l (i + 32)))
+unfoldable pub oneFixed : List ℕ → ℕ → List ℕ
+oneFixed l i = set l i (at l i + 2 ^ topOpen (at l i) (at l (i + 32)))
 
 -- word i of the copy of n words has bounds of 64 bits that differ
 pub record Copied (n : ℕ) (l : List ℕ) (i : ℕ) : Type 0 where

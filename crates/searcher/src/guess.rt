@@ -2,7 +2,7 @@
 ghost use mathlib.Core.Path.{_≡_};
 ghost use Prim.Native.Nat.{_+_, _<_, _≤_};
 ghost use lib.ListN.{length};
-ghost use Rattle.searcher.specs.Guessing.{Lowest, Fixable, firstOf, secondOf, Copied, Second};
+ghost use Rattle.searcher.specs.Guessing.{Lowest, Fixable, zeroFixed, oneFixed, Copied, Second};
 
 // The lowest-numbered of n words with an open bit; n where there is none.
 pub fn open_word(work: &[u64], n: usize) -> usize
@@ -22,7 +22,7 @@ pub fn open_word(work: &[u64], n: usize) -> usize
 // The highest open bit of a word fixed 0.
 pub fn fix_first(work: &mut [u64], i: usize)
     requires { ⌜ Fixable (now work) i ⌝ }
-    ensures { λ _. ⌜ now (work .exit) ≡ firstOf (now (work .entry)) i ⌝ }
+    ensures { λ _. ⌜ now (work .exit) ≡ zeroFixed (now (work .entry)) i ⌝ }
 {
     let k = i + 32;
     let j = words::highest_open(work[i], work[k]);
@@ -32,7 +32,7 @@ pub fn fix_first(work: &mut [u64], i: usize)
 // The highest open bit of a word fixed 1.
 fn fix_second(work: &mut [u64], i: usize)
     requires { ⌜ Fixable (now work) i ⌝ }
-    ensures { λ _. ⌜ now (work .exit) ≡ secondOf (now (work .entry)) i ⌝ }
+    ensures { λ _. ⌜ now (work .exit) ≡ oneFixed (now (work .entry)) i ⌝ }
 {
     let j = words::highest_open(work[i], work[i + 32]);
     work[i] = words::fix_one(work[i], j);

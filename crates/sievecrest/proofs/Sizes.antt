@@ -94,7 +94,7 @@ module _ {σ : Shape} {t : Span} (legal : Legal σ t) {p : Place} {j : ℕ} wher
       within 38 b (length out) (omega arith) (omega (arith, forced-bit s)) (omega (arith, reason-length legal (with-reason n s r)))
   explains-within Says.FREE e = within 39 0 0 (omega arith) (omega arith) (omega arith)
 
-  given-within : {l m : List ℕ} {r : Explained} → Explain.Given σ t p j l r m → Within (explained r)
+  given-within : {l m : List ℕ} {r : Explained} → Explain.Explanation σ t p j l r m → Within (explained r)
   given-within g = rw (g .told) (explains-within (g .answer) (g .explains))
 
 module _ {ws bs : List ℕ} {n p j : ℕ} {l : List ℕ} where

@@ -39,11 +39,11 @@ fn solve_proper(
     ensures { λ r. ⌜ Solving limit (now (words .entry)) (now (rules .entry)) (now (model .entry)) (now (work .entry)) r (now (model .exit))
         (now (work .exit)) ⌝ }
 {
-    let c = rules.len() / 6;
+    let c = rules.len() / checker::FIELDS;
     tighten::buffer::list_all(work, c);
     match searcher::search_problem(work, words, rules, c, limit) {
         searcher::Answer::Found(count) => {
-            store(model, work, words.len() / 3);
+            store(model, work, words.len() / checker::STRIDE);
             tighten::buffer::clear(work);
             Solved::Found(count)
         }
@@ -66,10 +66,10 @@ pub fn solve(words: &[u64], rules: &[u8], limit: u32, model: &mut [u64], work: &
         (now (work .exit)) ⌝ }
 {
     if work.len() < WORK {
-        return Solved::Refused(1, 0);
+        return Solved::Refused(checker::SIZE, 0);
     }
-    if model.len() < words.len() / 3 {
-        return Solved::Refused(1, 0);
+    if model.len() < words.len() / checker::STRIDE {
+        return Solved::Refused(checker::SIZE, 0);
     }
     let x = checker::check(words, rules, limit);
     if let checker::Checked::Refused(number, place) = x {

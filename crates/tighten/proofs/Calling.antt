@@ -22,7 +22,7 @@ use Rattle.tighten.specs.declared.Answer.{Answer}
 use Rattle.tighten.specs.declared.Answer.the-variants as answer
 use Rattle.tighten.specs.Memory.{tableIn, chosen, Loaded, Numbered, Cleared, putBounds}
 use Rattle.tighten.specs.Ready.{Ready, Listed, Settled}
-use Rattle.tighten.specs.Promise.{workLength, refusalHere, Given, Bounds, Ended, ended-tight, ended-conflict, Tightening, refused, tight, conflict}
+use Rattle.tighten.specs.Promise.{workLength, refusalHere, Given, WithBounds, Ended, ended-tight, ended-conflict, Tightening, refused, tight, conflict}
 use Rattle.tighten.proofs.Memory.{low-at, high-at, lows, highs}
 use Rattle.tighten.proofs.Buffers.{put-length}
 
@@ -114,7 +114,7 @@ module _ (l ws : List ℕ) where
           ∙ getD-set-other (putBounds k l ws) (3 * k + 1) (3 * i + 2) (at l k) 0 (omega arith) ∙ ih (omega arith)
 
 -- the words with the bounds of the table in memory
-pub put-bounds : (l ws : List ℕ) → wordCount ws ≤ 32 → 64 ≤ length l → Bounds ws (putBounds (wordCount ws) l ws) (tableIn (wordCount ws) l)
+pub put-bounds : (l ws : List ℕ) → wordCount ws ≤ 32 → 64 ≤ length l → WithBounds ws (putBounds (wordCount ws) l ws) (tableIn (wordCount ws) l)
 put-bounds l ws most room = record {
   size = put-length (wordCount ws) l ws;
   widths = rw same (series-same (wordCount ws) _ (widthAt ws) (λ i h. put-width l ws (wordCount ws) i));

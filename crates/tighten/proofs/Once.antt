@@ -15,13 +15,13 @@ use Rattle.checker.specs.Lent.{stride, widthAt, loAt, hiAt, widthsOf, tableOf, 
 use Rattle.checker.proofs.Series.{width-at, lo-at, hi-at}
 use Rattle.tighten.specs.declared.Answer.{Answer}
 use Rattle.tighten.specs.Memory.{Cleared}
-use Rattle.tighten.specs.Promise.{Bounds, Tightening, refused, tight, conflict}
+use Rattle.tighten.specs.Promise.{WithBounds, Tightening, refused, tight, conflict}
 use Rattle.tighten.proofs.Calling.{here-sized}
 
 pub cleared-once : {l m n : List ℕ} → Cleared l m → Cleared l n → m ≡ n
 cleared-once {l} {m} {n} x y = ext-getD 0 m n (x .size ∙ sym (y .size)) (λ i h. x .zeros i ∙ sym (y .zeros i))
 
-bounds-once : {ws us vs : List ℕ} {u v : Table} → length ws % stride ≡ 0 → u ≡ v → Bounds ws us u → Bounds ws vs v → us ≡ vs
+bounds-once : {ws us vs : List ℕ} {u v : Table} → length ws % stride ≡ 0 → u ≡ v → WithBounds ws us u → WithBounds ws vs v → us ≡ vs
 bounds-once {ws} {us} {vs} whole e x y = ext-getD 0 us vs (x .size ∙ sym (y .size)) (λ j h. go j (j % stride) refl)
   where
     us-whole : length us % stride ≡ 0

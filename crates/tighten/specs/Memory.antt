@@ -7,7 +7,7 @@ use Prim.Native.Nat.{ℕ, zero, suc, _+_, _*_, _≤_, _<_}
 use lib.ListN.{length, take, drop, set}
 use Rattle.words.specs.Table.{Table, at}
 use Rattle.rules.specs.Tight.{Rule, rule}
-use Rattle.checker.specs.Lent.{series}
+use Rattle.checker.specs.Lent.{stride, loAt, hiAt, series}
 
 -- the table of n words
 unfoldable pub tableIn : ℕ → List ℕ → Table
@@ -26,8 +26,8 @@ pub record Outside (n : ℕ) (l m : List ℕ) : Type 0 where
 pub record Loaded (n : ℕ) (ws l m : List ℕ) : Type 0 where
   pub size : length m ≡ length l
   pub rest : (i : ℕ) → 64 ≤ i → at m i ≡ at l i
-  pub low : (i : ℕ) → i < n → at m i ≡ at ws (3 * i + 1)
-  pub high : (i : ℕ) → i < n → at m (i + 32) ≡ at ws (3 * i + 2)
+  pub low : (i : ℕ) → i < n → at m i ≡ loAt ws i
+  pub high : (i : ℕ) → i < n → at m (i + 32) ≡ hiAt ws i
 
 -- the numbers 0 to c - 1 are listed in m, which below 64 is as l
 pub record Numbered (c : ℕ) (l m : List ℕ) : Type 0 where
@@ -43,4 +43,4 @@ pub record Cleared (l m : List ℕ) : Type 0 where
 -- the words ws with the bounds of the first n from memory l
 unfoldable pub putBounds : ℕ → List ℕ → List ℕ → List ℕ
 putBounds zero l ws = ws
-putBounds (suc i) l ws = set (set (putBounds i l ws) (3 * i + 1) (at l i)) (3 * i + 2) (at l (i + 32))
+putBounds (suc i) l ws = set (set (putBounds i l ws) (stride * i + 1) (at l i)) (stride * i + 2) (at l (i + 32))

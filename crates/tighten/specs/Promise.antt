@@ -27,7 +27,7 @@ unfoldable pub refusalHere : List ℕ → List ℕ → List ℕ → Checked
 refusalHere ws bs l = room workLength (length l) (refusal ws bs)
 
 -- the words vs are the words ws with the bounds of table u
-pub record Bounds (ws vs : List ℕ) (u : Table) : Type 0 where
+pub record WithBounds (ws vs : List ℕ) (u : Table) : Type 0 where
   pub size : length vs ≡ length ws
   pub widths : widthsOf vs ≡ widthsOf ws
   pub table : tableOf vs ≡ u
@@ -40,13 +40,13 @@ pub record Given (ws bs l : List ℕ) : Type 0 where
 
 -- what it comes to then
 pub data Ended (ws bs l : List ℕ) : Bool → List ℕ → List ℕ → Type 0 where
-  ended-tight : {u : Table} {vs m : List ℕ} → Widest (Tight (widthsOf ws) (rulesOf bs)) (tableOf ws) u → Bounds ws vs u → Cleared l m → Ended ws bs l true vs m
+  ended-tight : {u : Table} {vs m : List ℕ} → Widest (Tight (widthsOf ws) (rulesOf bs)) (tableOf ws) u → WithBounds ws vs u → Cleared l m → Ended ws bs l true vs m
   ended-conflict : {m : List ℕ} → Conflict (Tight (widthsOf ws) (rulesOf bs)) (tableOf ws) → Cleared l m → Ended ws bs l false ws m
 
 -- words ws, rules bs and work memory l were lent; the answer is x, and vs and m stand in words and memory afterwards
 pub data Tightening (ws bs l : List ℕ) : Answer → List ℕ → List ℕ → Type 0 where
   refused : {n p : ℕ} → refusalHere ws bs l ≡ Refused n p → Tightening ws bs l (answer.Refused n p) ws l
-  tight : {u : Table} {vs m : List ℕ} → refusalHere ws bs l ≡ Ok → Widest (Tight (widthsOf ws) (rulesOf bs)) (tableOf ws) u → Bounds ws vs u → Cleared l m
+  tight : {u : Table} {vs m : List ℕ} → refusalHere ws bs l ≡ Ok → Widest (Tight (widthsOf ws) (rulesOf bs)) (tableOf ws) u → WithBounds ws vs u → Cleared l m
       → Tightening ws bs l answer.Tight vs m
   conflict : {m : List ℕ} → refusalHere ws bs l ≡ Ok → Conflict (Tight (widthsOf ws) (rulesOf bs)) (tableOf ws) → Cleared l m
       → Tightening ws bs l answer.Conflict ws m

@@ -2,17 +2,18 @@
 ghost use mathlib.Core.Path.{_≡_};
 ghost use Prim.Native.Nat.{_+_, _*_, _≤_};
 ghost use lib.ListN.{length};
+ghost use Rattle.checker.specs.Lent.{stride};
 ghost use Rattle.tighten.specs.Memory.{Loaded, Numbered, Cleared, putBounds};
 
 // The bounds of n words, from words to memory.
 pub fn load(work: &mut [u64], words: &[u64], n: usize)
-    requires { ⌜ (n ≤ 32) × (3 * n ≤ length (now words)) × (64 ≤ length (now work)) ⌝ }
+    requires { ⌜ (n ≤ 32) × (stride * n ≤ length (now words)) × (64 ≤ length (now work)) ⌝ }
     ensures { λ _. ⌜ Loaded n (now (words .entry)) (now (work .entry)) (now (work .exit)) ⌝ }
 {
     let mut i = 0;
     while i < n {
-        work[i] = words[3 * i + 1];
-        work[i + 32] = words[3 * i + 2];
+        work[i] = words[checker::STRIDE * i + 1];
+        work[i + 32] = words[checker::STRIDE * i + 2];
         i += 1;
     }
 }
@@ -31,13 +32,13 @@ pub fn list_all(work: &mut [u64], c: usize)
 
 // The bounds of n words, from memory to words.
 pub fn unload(words: &mut [u64], work: &[u64], n: usize)
-    requires { ⌜ (n ≤ 32) × (3 * n ≤ length (now words)) × (64 ≤ length (now work)) ⌝ }
+    requires { ⌜ (n ≤ 32) × (stride * n ≤ length (now words)) × (64 ≤ length (now work)) ⌝ }
     ensures { λ _. ⌜ now (words .exit) ≡ putBounds n (now (work .entry)) (now (words .entry)) ⌝ }
 {
     let mut i = 0;
     while i < n {
-        words[3 * i + 1] = work[i];
-        words[3 * i + 2] = work[i + 32];
+        words[checker::STRIDE * i + 1] = work[i];
+        words[checker::STRIDE * i + 2] = work[i + 32];
         i += 1;
     }
 }

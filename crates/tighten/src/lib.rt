@@ -75,8 +75,8 @@ fn tighten_proper(words: &mut [u64], rules: &[u8], work: &mut [u64]) -> bool
     requires { ⌜ Given (now words) (now rules) (now work) ⌝ }
     ensures { λ r. ⌜ Ended (now (words .entry)) (now (rules .entry)) (now (work .entry)) r (now (words .exit)) (now (work .exit)) ⌝ }
 {
-    let n = words.len() / 3;
-    let c = rules.len() / 6;
+    let n = words.len() / checker::STRIDE;
+    let c = rules.len() / checker::FIELDS;
     buffer::load(work, words, n);
     buffer::list_all(work, c);
     if settle(work, words, rules, c) {
@@ -94,7 +94,7 @@ pub fn tighten(words: &mut [u64], rules: &[u8], work: &mut [u64]) -> Answer
     ensures { λ r. ⌜ Tightening (now (words .entry)) (now (rules .entry)) (now (work .entry)) r (now (words .exit)) (now (work .exit)) ⌝ }
 {
     if work.len() < WORK {
-        return Answer::Refused(1, 0);
+        return Answer::Refused(checker::SIZE, 0);
     }
     let x = checker::first_refusal(words, rules);
     if let checker::Checked::Refused(number, place) = x {

@@ -4,7 +4,7 @@ use crate::Numbers;
 ghost use mathlib.Core.Path.{_≡_};
 ghost use Prim.Native.Nat.{_+_, _*_, _<_, _≤_};
 ghost use lib.ListN.{length};
-ghost use Rattle.checker.specs.Lent.{ruleCount};
+ghost use Rattle.checker.specs.Lent.{stride, fields, ruleCount};
 ghost use Rattle.tighten.specs.Meeting.{metBy, metAll, numbersAt, boundsAt, widthsAt};
 ghost use Rattle.tighten.specs.Ready.{Ready, Applied};
 
@@ -16,10 +16,10 @@ fn wide(x: u8) -> usize
 
 // The fields of rule n.
 fn numbers_at(rules: &[u8], n: usize) -> Numbers
-    requires { ⌜ 6 * n + 5 < length (now rules) ⌝ }
+    requires { ⌜ fields * n + 5 < length (now rules) ⌝ }
     ensures { λ r. ⌜ r ≡ numbersAt (now (rules .entry)) n ⌝ }
 {
-    let at = 6 * n;
+    let at = checker::FIELDS * n;
     Numbers {
         kind: wide(rules[at]),
         r: wide(rules[at + 1]),
@@ -53,14 +53,14 @@ fn bounds_at(work: &[u64], x: Numbers) -> hull::Bounds
 
 // The widths of these words.
 fn widths_at(words: &[u64], x: Numbers) -> hull::Widths
-    requires { ⌜ (3 * x .r < length (now words)) × (3 * x .a < length (now words)) × (3 * x .b < length (now words))
-        × (3 * x .s < length (now words)) × (x .r < 32) × (x .a < 32) × (x .b < 32) × (x .s < 32) ⌝ }
+    requires { ⌜ (stride * x .r < length (now words)) × (stride * x .a < length (now words)) × (stride * x .b < length (now words))
+        × (stride * x .s < length (now words)) × (x .r < 32) × (x .a < 32) × (x .b < 32) × (x .s < 32) ⌝ }
     ensures { λ r. ⌜ r ≡ widthsAt (now (words .entry)) x ⌝ }
 {
-    let r = 3 * x.r;
-    let a = 3 * x.a;
-    let b = 3 * x.b;
-    let s = 3 * x.s;
+    let r = checker::STRIDE * x.r;
+    let a = checker::STRIDE * x.a;
+    let b = checker::STRIDE * x.b;
+    let s = checker::STRIDE * x.s;
     hull::Widths {
         r: words[r],
         a: words[a],

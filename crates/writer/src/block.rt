@@ -1,11 +1,11 @@
 // A block written whole: words, rules or the end.
-use crate::FIELDS;
-use crate::STRIDE;
 use crate::bytes::finish;
 use crate::bytes::put_bytes;
 use crate::bytes::put_head;
 use crate::bytes::put_number;
 use crate::bytes::put_zeros;
+use checker::FIELDS;
+use checker::STRIDE;
 ghost use mathlib.Core.Path.{_≡_};
 ghost use Prim.Native.Nat.{_+_, _*_, _≤_};
 ghost use lib.ListN.{length};

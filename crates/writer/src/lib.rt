@@ -17,19 +17,10 @@ ghost use Rattle.blocks.specs.Written.{wordBlocks, ruleBlocks, encode, Storable
 ghost use Rattle.blocks.specs.Promise.{Writes};
 ghost use Rattle.writer.specs.Items.{Narrow, wordsUpTo, rulesUpTo, roomFor};
 
-// Numbers a word: width, lo, hi.
-const STRIDE: usize = 3;
-
-// Bytes a rule: kind, r, a, b, s, k.
-const FIELDS: usize = 6;
-
 // Records to a full block.
 const WORDS: usize = 21;
 
 const RULES: usize = 63;
-
-// The number of refusal 1.
-const SIZE: u64 = 1;
 
 fn least(a: usize, b: usize) -> usize
     ensures { λ r. ⌜ r ≡ min a b ⌝ }
@@ -44,7 +35,7 @@ fn write_words(file: &mut [u8], words: &[u64])
         now (file .exit) ≡ put (now (file .entry)) 0 (wordsUpTo (now (words .entry)) (wordBlocks edition1 (wordCount (now (words .entry)))))
         ⌝ }
 {
-    let n = words.len() / STRIDE;
+    let n = words.len() / checker::STRIDE;
     let k = (n + 20) / WORDS;
     let mut q = 0;
     while q < k {
@@ -65,7 +56,7 @@ fn write_rules(file: &mut [u8], rules: &[u8], before: usize)
         ≡ put (now (file .entry)) (512 * before) (rulesUpTo (now (rules .entry)) before (ruleBlocks edition1 (ruleCount (now (rules .entry)))))
         ⌝ }
 {
-    let m = rules.len() / FIELDS;
+    let m = rules.len() / checker::FIELDS;
     let k = (m + 62) / RULES;
     let mut q = 0;
     while q < k {
@@ -87,8 +78,8 @@ fn write_all(file: &mut [u8], words: &[u64], rules: &[u8], limit: u32) -> usize
         × (now (file .exit) ≡ put (now (file .entry)) 0 (encode edition1 limit (now (words .entry)) (now (rules .entry))))
         ⌝ }
 {
-    let before = (words.len() / STRIDE + 20) / WORDS;
-    let k = before + (rules.len() / FIELDS + 62) / RULES;
+    let before = (words.len() / checker::STRIDE + 20) / WORDS;
+    let k = before + (rules.len() / checker::FIELDS + 62) / RULES;
     let at = 512 * k;
     let e = at + 512;
     write_words(file, words);
@@ -107,7 +98,8 @@ fn has_room(words: usize, rules: usize, file: usize) -> bool
     if rules > 1512 {
         return false;
     }
-    512 * ((words / STRIDE + 20) / WORDS + (rules / FIELDS + 62) / RULES + 1) <= file
+    512 * ((words / checker::STRIDE + 20) / WORDS + (rules / checker::FIELDS + 62) / RULES + 1)
+        <= file
 }
 
 // Writes a problem of lent words, three numbers each, and lent rules, six bytes each, as a file. OK with the file's length: its bytes are stored, in front,
@@ -118,7 +110,7 @@ pub fn write(words: &[u64], rules: &[u8], limit: u32, file: &mut [u8]) -> Writte
         ⌝ }
 {
     if !has_room(words.len(), rules.len(), file.len()) {
-        return Written::Refused(SIZE, 0);
+        return Written::Refused(checker::SIZE, 0);
     }
     let x = checker::check(words, rules, limit);
     if let Checked::Refused(number, place) = x {

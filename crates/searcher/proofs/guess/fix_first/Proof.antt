@@ -1,5 +1,5 @@
 -- `searcher::guess::fix_first` meets its contract. Assumes nothing.
-use Rattle.searcher.specs.Guessing.{firstOf}
+use Rattle.searcher.specs.Guessing.{zeroFixed}
 use Rattle.searcher.proofs.Guesses.{some-open, top-low, top-on}
 use borrow.Author.Needs.{needs}
 use Rattle.searcher.proofs.guess.fix_first.Statement.{statement}
@@ -45,7 +45,7 @@ same-length : tie.Need-same-length
 same-length c = search needs
 
 returns : tie.Need-returns
-unfolding firstOf
+unfolding zeroFixed
 returns c = rw (c .fix-zero .ensures, c .before .before .highest-open .ensures)
 
 pub fix-first-spec : {M : Type 1} → statement M

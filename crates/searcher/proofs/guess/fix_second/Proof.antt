@@ -1,5 +1,5 @@
 -- `searcher::guess::fix_second` meets its contract. Assumes nothing.
-use Rattle.searcher.specs.Guessing.{secondOf}
+use Rattle.searcher.specs.Guessing.{oneFixed}
 use Rattle.searcher.proofs.Guesses.{some-open, top-low, top-off}
 use borrow.Author.Needs.{needs}
 use Rattle.searcher.proofs.guess.fix_second.Statement.{statement}
@@ -45,7 +45,7 @@ same-length : tie.Need-same-length
 same-length c = search needs
 
 returns : tie.Need-returns
-unfolding secondOf
+unfolding oneFixed
 returns c = rw (c .fix-one .ensures, c .before .before .highest-open .ensures)
 
 pub fix-second-spec : {M : Type 1} → statement M
