@@ -1,4 +1,4 @@
-// One ADD narrowing, measured: `hull_add` of crates/hull beside a plain loop over columns in C that does the same work.
+// One ADD narrowing, measured: `hull_add` of crates/narrowbench beside a plain loop over columns in C that does the same work.
 // Both give the six bounds that are left as one number, their exclusive or; the sums over all cases must agree.
 #include <stdint.h>
 #include <stdio.h>

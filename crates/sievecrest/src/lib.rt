@@ -1,6 +1,6 @@
 // The calls for C and Rust. A slice passes as a pointer and its length; an answer comes back as one number, so that none travels through lent memory.
 // Each call promises what the library's own call promises, and that its number is that answer's.
-pub mod packing;
+mod packing;
 
 use packing::of_advised;
 use packing::of_caused;

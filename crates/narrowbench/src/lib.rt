@@ -1,10 +1,10 @@
-// ADD on plain numbers, through `narrow`, for measuring from C (bench/narrow).
-use crate::Bounds;
-use crate::Widths;
-use crate::narrow;
+// ADD on plain numbers, through `narrow`, for measuring from C (bench/narrow). It has a `requires`, which the benchmark keeps.
+use hull::Bounds;
+use hull::Widths;
+use hull::narrow;
 ghost use Rattle.rules.specs.Fits.{Legal};
 ghost use Rattle.hull.specs.Narrowing.{shapeOf, spanOf};
-ghost use Rattle.hull.specs.Measure.{level, plain, Measured};
+ghost use Rattle.narrowbench.specs.Measure.{level, plain, Measured};
 
 // The bounds of r, a and b at width n go in; the six that are left come back as one number, their exclusive or.
 #[no_mangle]
