@@ -1,2 +1,4 @@
 pub mod Problems
 pub mod Answers
+pub mod Dirts
+pub mod Replies
