@@ -1,27 +1,13 @@
--- A list put behind two numbers, and told. Assumes nothing.
-use mathlib.Core.Path.{_≡_, refl, sym, ap, subst, _∙_}
+-- A list told behind two numbers. Assumes nothing.
+use mathlib.Core.Path.{_≡_, refl, sym, subst}
 use mathlib.Core.Bool.{Bool, true, false, _&&_}
-use mathlib.Core.List.{List, [], _∷_, _++_}
-use Prim.Native.Nat.{ℕ, _+_, _-_, _≤_}
-use native.Mathlib.Nat.{zero-add}
-use native.Mathlib.Omega.{arith}
+use mathlib.Core.List.{List, [], _∷_}
+use Prim.Native.Nat.{ℕ, _-_}
 use lib.ListN.{length, take, drop}
-use lib.Seq.{take-at, length-take-le}
 use Rattle.lines.specs.Lists.{All, Tells}
-use Rattle.lines.specs.Putting.{Appended}
-use Rattle.lines.proofs.Appends.{appended-length, appended-both}
 use Rattle.benchtop.specs.Told.{Told}
 use Rattle.benchtop.proofs.Problems.{part-all}
 use Rattle.solvebench.specs.ListTold.{ListTold}
-
--- what was put in front, in two parts
-pub both-front : {l xs m ys k : List ℕ} {a e : ℕ} → Appended l 0 xs m a → Appended m a ys k e → take e k ≡ xs ++ ys
-both-front {l} {xs} {m} {ys} {k} {a} {e} f g =
-    let b = appended-both f g in
-    ap (take e) (b .text) ∙ take-at (xs ++ ys) (drop (0 + length (xs ++ ys)) l) e (sym (b .ends ∙ zero-add (length (xs ++ ys))))
-
-pub front-length : {m ys k : List ℕ} {a e : ℕ} → Appended m a ys k e → e ≡ length (take e k)
-front-length {m} {ys} {k} {a} {e} g = sym (length-take-le e k (omega (arith, g .room, appended-length g)))
 
 -- two tests, by the second
 all-kept : (fine rest : Bool) → rest ≡ true → fine && rest ≡ fine

@@ -28,7 +28,8 @@ fn cause_lent(
 ) -> usize
     requires { ⌜ (length (now entries) ≤ 500) × All (now entries) 7 × All (now work) 7 ⌝ }
     ensures { λ r. ⌜
-        Said (CauseSays limit (now (entries .entry)) (now (work .entry)) (now (words .entry)) (now (rules .entry))) (now (name .entry)) (now (out .entry)) (now (out .exit)) r
+        Said (CauseSays limit (now (entries .entry)) (now (work .entry)) (now (words .entry)) (now (rules .entry)))
+        (now (name .entry)) (now (out .entry)) (now (out .exit)) r
         ⌝ }
 {
     let answer = cause::cause(words, rules, limit, entries, work);

@@ -27,7 +27,8 @@ fn explain_lent(
 ) -> usize
     requires { ⌜ (length (now entries) ≤ 500) × All (now entries) 7 ⌝ }
     ensures { λ r. ⌜
-        Said (ExplainSays rule place bit (now (entries .entry)) (now (words .entry)) (now (rules .entry))) (now (name .entry)) (now (out .entry)) (now (out .exit)) r
+        Said (ExplainSays rule place bit (now (entries .entry)) (now (words .entry)) (now (rules .entry)))
+        (now (name .entry)) (now (out .entry)) (now (out .exit)) r
         ⌝ }
 {
     let answer = explain::explain(words, rules, rule, place, bit, entries);

@@ -28,7 +28,8 @@ fn solve_lent(
 ) -> usize
     requires { ⌜ (length (now model) ≤ 500) × All (now model) 7 × All (now work) 7 ⌝ }
     ensures { λ r. ⌜
-        Said (SolveSays limit (now (model .entry)) (now (work .entry)) (now (words .entry)) (now (rules .entry))) (now (name .entry)) (now (out .entry)) (now (out .exit)) r
+        Said (SolveSays limit (now (model .entry)) (now (work .entry)) (now (words .entry)) (now (rules .entry)))
+        (now (name .entry)) (now (out .entry)) (now (out .exit)) r
         ⌝ }
 {
     let answer = solve::solve(words, rules, limit, model, work);

@@ -13,16 +13,8 @@ pub fn answer(line: &[u8], out: &mut [u8]) -> usize
     ensures { λ r. ⌜ Answered (now (out .entry)) (now (out .exit)) r ⌝ }
 {
     let mut numbers = memory::numbers();
-    let mut kept = memory::numbers();
     let Parsed::Line { name, word, count } = lines::parse(line, &mut numbers) else {
         return 0;
     };
-    lines::parse(line, &mut kept);
-    calls::call(
-        &line[..name],
-        &line[name + 1..word],
-        &mut numbers[..count],
-        &kept[..count],
-        out,
-    )
+    calls::call(&line[..name], &line[name + 1..word], &numbers[..count], out)
 }

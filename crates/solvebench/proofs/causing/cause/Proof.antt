@@ -116,7 +116,8 @@ slice-aggregate-cause-lent-3 c =
 cause-lent-requires : tie.Need-cause-lent-requires
 cause-lent-requires c κs =
     let w = c .before .before .before .before .before in
-    let ns = now (w .before .before .before .before .before .before .before .before .before .before .before .before .before .before .before .before .before .before .args .numbers) in
+    let h = w .before .before .before .before .before .before .before .before in
+    let ns = now (h .before .before .before .before .before .before .before .before .before .before .args .numbers) in
     let m = dirt-lent (at ns 1) 256 (w .before .entries .ensures .1) (omega (arith, w .before .before .before .before .if2 .left)) in
     let k = dirt-lent (at ns 2) 5120 (w .work .ensures .1) (w .before .before .if3 .left) in
     (omega (arith, m .0), m .1, k .1)
@@ -128,9 +129,12 @@ returns-5 : tie.Need-returns-5
 returns-5 c =
     let v = c .before .before .before .before in
     let w = v .before .before .before .before .before .before in
-    let ns = now (w .before .before .before .before .before .before .before .before .before .before .before .before .before .before .before .before .before .before .args .numbers) in
-    let fair : CauseFair ns = (w .before .before .before .before .before .before .if1 .left, w .before .before .before .before .if2 .left, w .before .before .if3 .left) in
-    cause-replied (holds (w .before .before .before .before .before .before .before .before)) fair (dirt-take (at ns 1) 256 (w .before .entries .ensures .1) (omega (arith, fair .1)))
+    let h = w .before .before .before .before .before .before .before .before in
+    let ns = now (h .before .before .before .before .before .before .before .before .before .before .args .numbers) in
+    let fair : CauseFair ns =
+    (w .before .before .before .before .before .before .if1 .left, w .before .before .before .before .if2 .left, w .before .before .if3 .left) in
+    cause-replied (holds h) fair
+    (dirt-take (at ns 1) 256 (w .before .entries .ensures .1) (omega (arith, fair .1)))
     (dirt-take (at ns 2) 5120 (w .work .ensures .1) (fair .2)) (v .cause-lent .ensures)
 
 pub cause-spec : {M : Type 1} → statement M

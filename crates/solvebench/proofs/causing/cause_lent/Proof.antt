@@ -80,7 +80,8 @@ returns c =
     let a = e .before .before in
     let v = a .before .before .before .before .before .before .before .before .before .before in
     let p = v .before .before .before .before .before .before .before .before .before .pre in
-    exists-said (p .1) (p .2) (v .cause .ensures) (a .before .before .all .ensures) (a .before .before .before .before .is-dirty .ensures) (e .answer .given .1) (w .tell .ensures .0)
+    exists-said (p .1) (p .2) (v .cause .ensures) (a .before .before .all .ensures) (a .before .before .before .before .is-dirty .ensures)
+    (e .answer .given .1) (w .tell .ensures .0)
 
 same-length-4 : tie.Need-same-length-4
 same-length-4 c = search needs
@@ -98,7 +99,8 @@ returns-2 c =
     let a = e .before .before in
     let v = a .before .before .before .before .before .before .before .before .before .before in
     let p = v .before .before .before .before .before .before .before .before .before .pre in
-    gave-up-said (p .1) (p .2) (v .cause .ensures) (a .before .before .all .ensures) (a .before .before .before .before .is-dirty .ensures) (e .answer2 .given .1) (w .tell2 .ensures .0)
+    gave-up-said (p .1) (p .2) (v .cause .ensures) (a .before .before .all .ensures) (a .before .before .before .before .is-dirty .ensures)
+    (e .answer2 .given .1) (w .tell2 .ensures .0)
 
 same-length-7 : tie.Need-same-length-7
 same-length-7 c = search needs
@@ -134,7 +136,8 @@ returns-4 c =
     let a = e .before .before in
     let v = a .before .before .before .before .before .before .before .before .before .before in
     let p = v .before .before .before .before .before .before .before .before .before .pre in
-    refused-said (p .1) (p .2) (v .cause .ensures) (a .all2 .ensures) (a .before .before .before .before .is-dirty .ensures) (e .answer4 .given .1) (w .tell3 .ensures .0)
+    refused-said (p .1) (p .2) (v .cause .ensures) (a .all2 .ensures) (a .before .before .before .before .is-dirty .ensures)
+    (e .answer4 .given .1) (w .tell3 .ensures .0)
 
 pub cause-lent-spec : {M : Type 1} → statement M
 cause-lent-spec =

@@ -97,7 +97,8 @@ slice-aggregate-explain-lent-2 c =
 explain-lent-requires : tie.Need-explain-lent-requires
 explain-lent-requires c κs =
     let w = c .before .before .before .before in
-    let ns = now (w .before .before .before .before .before .before .before .before .before .before .before .before .before .before .before .before .args .numbers) in
+    let h = w .before .before .before .before .before .before in
+    let ns = now (h .before .before .before .before .before .before .before .before .before .before .args .numbers) in
     let m = dirt-lent (at ns 3) 256 (w .entries .ensures .1) (w .before .if1 .left) in
     (omega (arith, m .0), m .1)
 
@@ -108,8 +109,10 @@ returns-3 : tie.Need-returns-3
 returns-3 c =
     let v = c .before .before .before in
     let w = v .before .before .before .before .before in
-    let ns = now (w .before .before .before .before .before .before .before .before .before .before .before .before .before .before .before .before .args .numbers) in
-    explain-replied (holds (w .before .before .before .before .before .before)) (w .before .if1 .left) (dirt-take (at ns 3) 256 (w .entries .ensures .1) (w .before .if1 .left)) (v .explain-lent .ensures)
+    let h = w .before .before .before .before .before .before in
+    let ns = now (h .before .before .before .before .before .before .before .before .before .before .args .numbers) in
+    explain-replied (holds h) (w .before .if1 .left) (dirt-take (at ns 3) 256 (w .entries .ensures .1) (w .before .if1 .left))
+    (v .explain-lent .ensures)
 
 pub explain-spec : {M : Type 1} → statement M
 explain-spec =

@@ -96,7 +96,8 @@ returns-3 c =
     let e = w .before .before .before .before in
     let a = e .before .before in
     let v = a .before .before .before .before in
-    free-said (v .explain .ensures) (v .before .before .before .before .before .before .before .pre .1) (a .is-dirty .ensures) (e .enum-told .given .1) (w .tell .ensures .0)
+    free-said (v .explain .ensures) (v .before .before .before .before .before .before .before .pre .1) (a .is-dirty .ensures)
+    (e .enum-told .given .1) (w .tell .ensures .0)
 
 same-length-7 : tie.Need-same-length-7
 same-length-7 c = search needs
@@ -110,7 +111,8 @@ returns-4 c =
     let e = w .before .before .before .before .before in
     let a = e .before .before in
     let v = a .before .before .before .before in
-    refused-said (v .explain .ensures) (v .before .before .before .before .before .before .before .pre .1) (a .is-dirty .ensures) (e .answer3 .given .1) (w .tell2 .ensures .0)
+    refused-said (v .explain .ensures) (v .before .before .before .before .before .before .before .pre .1) (a .is-dirty .ensures)
+    (e .answer3 .given .1) (w .tell2 .ensures .0)
 
 pub explain-lent-spec : {M : Type 1} → statement M
 explain-lent-spec =

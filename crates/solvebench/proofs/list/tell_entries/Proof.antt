@@ -3,7 +3,8 @@ use mathlib.Core.Path.{sym}
 use native.Mathlib.Omega.{arith}
 use lib.Seq.{length-take-le}
 use Rattle.lines.proofs.Appends.{appended-length}
-use Rattle.solvebench.proofs.Lists.{both-front, front-length, list-told}
+use Rattle.benchtop.proofs.Fronts.{both-front, front-length}
+use Rattle.solvebench.proofs.Lists.{list-told}
 use borrow.Author.Needs.{needs}
 use Rattle.solvebench.proofs.list.tell_entries.Statement.{statement}
 use Rattle.solvebench.proofs.list.tell_entries.Tie as tie
@@ -39,7 +40,9 @@ slice-aggregate-put-entries : tie.Need-slice-aggregate-put-entries
 slice-aggregate-put-entries c = search needs
 
 slice-aggregate-put-entries-2 : tie.Need-slice-aggregate-put-entries-2
-slice-aggregate-put-entries-2 c = let s = c .before .before .before .before .before .before .before .before .before .before .before .before .before in sym (length-take-le _ _ (s .pre .0))
+slice-aggregate-put-entries-2 c =
+    let s = c .before .before .before .before .before .before .before .before .before .before .before .before .before in
+    sym (length-take-le _ _ (s .pre .0))
 
 put-entries-requires : tie.Need-put-entries-requires
 put-entries-requires c κs =
@@ -67,8 +70,11 @@ returns c =
     let q = w .before .before .before .before in
     let p = q .before .before .before .before in
     let t = p .before .before .before .before in
-    let s = t .before .before .before .before .before .before in
-    (list-told (s .args .n) (s .args .list .now) (t .is-dirty .ensures) (both-front (p .put .ensures) (q .put-entries .ensures)) (w .tell .ensures .0), w .tell .ensures .1)
+    let s = t .before .before .before .before .before .before in (
+      list-told (s .args .n) (s .args .list .now) (t .is-dirty .ensures)
+          (both-front (p .put .ensures) (q .put-entries .ensures)) (w .tell .ensures .0),
+      w .tell .ensures .1,
+    )
 
 pub tell-entries-spec : {M : Type 1} → statement M
 tell-entries-spec =

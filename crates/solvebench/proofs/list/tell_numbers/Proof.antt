@@ -3,7 +3,8 @@ use mathlib.Core.Path.{sym}
 use native.Mathlib.Omega.{arith}
 use lib.Seq.{length-take-le}
 use Rattle.lines.proofs.Appends.{appended-length}
-use Rattle.solvebench.proofs.Lists.{both-front, front-length, list-told}
+use Rattle.benchtop.proofs.Fronts.{both-front, front-length}
+use Rattle.solvebench.proofs.Lists.{list-told}
 use borrow.Author.Needs.{needs}
 use Rattle.solvebench.proofs.list.tell_numbers.Statement.{statement}
 use Rattle.solvebench.proofs.list.tell_numbers.Tie as tie
@@ -39,7 +40,9 @@ slice-aggregate-put-3 : tie.Need-slice-aggregate-put-3
 slice-aggregate-put-3 c = search needs
 
 slice-aggregate-put-4 : tie.Need-slice-aggregate-put-4
-slice-aggregate-put-4 c = let s = c .before .before .before .before .before .before .before .before .before .before .before .before .before in sym (length-take-le _ _ (s .pre .0))
+slice-aggregate-put-4 c =
+    let s = c .before .before .before .before .before .before .before .before .before .before .before .before .before in
+    sym (length-take-le _ _ (s .pre .0))
 
 put-requires-2 : tie.Need-put-requires-2
 put-requires-2 c κs =
@@ -67,8 +70,11 @@ returns c =
     let q = w .before .before .before .before in
     let p = q .before .before .before .before in
     let t = p .before .before .before .before in
-    let s = t .before .before .before .before .before .before in
-    (list-told (s .args .n) (s .args .list .now) (t .all .ensures) (both-front (p .put .ensures) (q .put2 .ensures)) (w .tell .ensures .0), w .tell .ensures .1)
+    let s = t .before .before .before .before .before .before in (
+      list-told (s .args .n) (s .args .list .now) (t .all .ensures)
+          (both-front (p .put .ensures) (q .put2 .ensures)) (w .tell .ensures .0),
+      w .tell .ensures .1,
+    )
 
 pub tell-numbers-spec : {M : Type 1} → statement M
 tell-numbers-spec =

@@ -117,7 +117,8 @@ slice-aggregate-solve-lent-3 c =
 solve-lent-requires : tie.Need-solve-lent-requires
 solve-lent-requires c κs =
     let w = c .before .before .before .before .before in
-    let ns = now (w .before .before .before .before .before .before .before .before .before .before .before .before .before .before .before .before .before .before .args .numbers) in
+    let h = w .before .before .before .before .before .before .before .before in
+    let ns = now (h .before .before .before .before .before .before .before .before .before .before .args .numbers) in
     let m = dirt-lent (at ns 1) 128 (w .before .dirty-words .ensures .1) (omega (arith, w .before .before .before .before .if2 .left)) in
     let k = dirt-lent (at ns 2) 5120 (w .work .ensures .1) (w .before .before .if3 .left) in
     (omega (arith, m .0), m .1, k .1)
@@ -129,9 +130,12 @@ returns-5 : tie.Need-returns-5
 returns-5 c =
     let v = c .before .before .before .before in
     let w = v .before .before .before .before .before .before in
-    let ns = now (w .before .before .before .before .before .before .before .before .before .before .before .before .before .before .before .before .before .before .args .numbers) in
-    let fair : SolveFair ns = (w .before .before .before .before .before .before .if1 .left, w .before .before .before .before .if2 .left, w .before .before .if3 .left) in
-    solve-replied (holds (w .before .before .before .before .before .before .before .before)) fair (dirt-take (at ns 1) 128 (w .before .dirty-words .ensures .1) (omega (arith, fair .1)))
+    let h = w .before .before .before .before .before .before .before .before in
+    let ns = now (h .before .before .before .before .before .before .before .before .before .before .args .numbers) in
+    let fair : SolveFair ns =
+    (w .before .before .before .before .before .before .if1 .left, w .before .before .before .before .if2 .left, w .before .before .if3 .left) in
+    solve-replied (holds h) fair
+    (dirt-take (at ns 1) 128 (w .before .dirty-words .ensures .1) (omega (arith, fair .1)))
     (dirt-take (at ns 2) 5120 (w .work .ensures .1) (fair .2)) (v .solve-lent .ensures)
 
 pub solve-spec : {M : Type 1} → statement M

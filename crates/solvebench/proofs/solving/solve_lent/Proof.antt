@@ -98,7 +98,8 @@ returns-2 c =
     let a = e .before .before in
     let v = a .before .before .before .before .before .before .before .before .before .before in
     let p = v .before .before .before .before .before .before .before .before .before .pre in
-    none-said (p .1) (p .2) (v .solve .ensures) (a .before .before .all2 .ensures) (a .before .before .before .before .all .ensures) (e .answer2 .given .1) (w .tell .ensures .0)
+    none-said (p .1) (p .2) (v .solve .ensures) (a .before .before .all2 .ensures) (a .before .before .before .before .all .ensures)
+    (e .answer2 .given .1) (w .tell .ensures .0)
 
 same-length-7 : tie.Need-same-length-7
 same-length-7 c = search needs
@@ -116,7 +117,8 @@ returns-3 c =
     let a = e .before .before in
     let v = a .before .before .before .before .before .before .before .before .before .before in
     let p = v .before .before .before .before .before .before .before .before .before .pre in
-    gave-up-said (p .1) (p .2) (v .solve .ensures) (a .before .before .all2 .ensures) (a .before .before .before .before .all .ensures) (e .answer3 .given .1) (w .tell2 .ensures .0)
+    gave-up-said (p .1) (p .2) (v .solve .ensures) (a .before .before .all2 .ensures) (a .before .before .before .before .all .ensures)
+    (e .answer3 .given .1) (w .tell2 .ensures .0)
 
 same-length-10 : tie.Need-same-length-10
 same-length-10 c = search needs
@@ -134,7 +136,8 @@ returns-4 c =
     let a = e .before .before in
     let v = a .before .before .before .before .before .before .before .before .before .before in
     let p = v .before .before .before .before .before .before .before .before .before .pre in
-    refused-said (p .1) (p .2) (v .solve .ensures) (a .all3 .ensures) (a .before .before .before .before .all .ensures) (e .answer4 .given .1) (w .tell3 .ensures .0)
+    refused-said (p .1) (p .2) (v .solve .ensures) (a .all3 .ensures) (a .before .before .before .before .all .ensures)
+    (e .answer4 .given .1) (w .tell3 .ensures .0)
 
 pub solve-lent-spec : {M : Type 1} → statement M
 solve-lent-spec =
