@@ -99,7 +99,8 @@ array-share-prefix-rules : tie.Need-array-share-prefix-rules
 array-share-prefix-rules c = parts (c .before .before .before .before .before .before .before .before .before .before) .rules
 
 slice-aggregate-tighten-lent-2 : tie.Need-slice-aggregate-tighten-lent-2
-slice-aggregate-tighten-lent-2 c = sym (length-take-le _ _ (parts (c .before .before .before .before .before .before .before .before .before .before .before) .rules))
+slice-aggregate-tighten-lent-2 c =
+    sym (length-take-le _ _ (parts (c .before .before .before .before .before .before .before .before .before .before .before) .rules))
 
 array-borrow-prefix-work : tie.Need-array-borrow-prefix-work
 array-borrow-prefix-work c = search needs
@@ -108,13 +109,15 @@ slice-aggregate-tighten-lent-3 : tie.Need-slice-aggregate-tighten-lent-3
 slice-aggregate-tighten-lent-3 c =
     let w = c .before .before .before .before in
     let i = w .before .before .before .before .before .before in
-    sym (length-take-le (at (now (i .before .before .before .before .before .before .before .before .before .before .before .before .args .numbers)) 0) (w .work .result) (omega (arith, w .work .ensures .0, i .if1 .left)))
+    let ns = now (i .before .before .before .before .before .before .before .before .before .before .before .before .args .numbers) in
+    sym (length-take-le (at ns 0) (w .work .result) (omega (arith, w .work .ensures .0, i .if1 .left)))
 
 tighten-lent-requires : tie.Need-tighten-lent-requires
 tighten-lent-requires c κs =
     let w = c .before .before .before .before .before in
     let i = w .before .before .before .before .before .before in
-    (front (w .before .before .put .ensures), dirt-lent (at (now (i .before .before .before .before .before .before .before .before .before .before .before .before .args .numbers)) 0) 512 (w .work .ensures .1) (i .if1 .left) .1)
+    let ns = now (i .before .before .before .before .before .before .before .before .before .before .before .before .args .numbers) in
+    (front (w .before .before .put .ensures), dirt-lent (at ns 0) 512 (w .work .ensures .1) (i .if1 .left) .1)
 
 same-length : tie.Need-same-length
 same-length c = search needs
@@ -124,8 +127,9 @@ returns-3 c =
     let v = c .before .before .before .before in
     let w = v .before .before .before .before .before .before in
     let i = w .before .before .before .before .before .before in
+    let ns = now (i .before .before .before .before .before .before .before .before .before .before .before .before .args .numbers) in
     tighten-replied (holds (i .before .before)) (i .if1 .left)
-    (dirt-take (at (now (i .before .before .before .before .before .before .before .before .before .before .before .before .args .numbers)) 0) 512 (w .work .ensures .1) (i .if1 .left)) (v .tighten-lent .ensures)
+    (dirt-take (at ns 0) 512 (w .work .ensures .1) (i .if1 .left)) (v .tighten-lent .ensures)
 
 pub tighten-spec : {M : Type 1} → statement M
 tighten-spec =
