@@ -1,6 +1,6 @@
 -- How a call on the test bench comes to what it puts. Assumes nothing.
 use mathlib.Core.Path.{_≡_, refl, sym, ap, subst, _∙_}
-use mathlib.Core.Bool.{Bool, true, _&&_}
+use mathlib.Core.Bool.{Bool, true, false, _&&_}
 use mathlib.Core.List.{List, [], _++_}
 use Prim.Native.Nat.{ℕ, _+_, _-_, _≤_}
 use native.Mathlib.Nat.{zero-add}
@@ -9,10 +9,11 @@ use lib.ListN.{length, take, drop, length-drop}
 use lib.Seq.{take-at}
 use Rattle.lines.specs.Putting.{put, LinePut}
 use Rattle.lines.specs.Lists.{Tells}
+use Rattle.lines.proofs.Lists.{told-no}
 use Rattle.benchtop.specs.declared.Problem.{Problem}
 use Rattle.benchtop.specs.declared.Problem.the-variants.{Is, Bad}
 use Rattle.benchtop.specs.Parts.{IsProblem, Parts}
-use Rattle.benchtop.specs.Told.{Answered, Told}
+use Rattle.benchtop.specs.Told.{Answered, Told, ToldIf}
 use Rattle.benchtop.specs.Replied.{most-bytes, rulesIn, Said, said, Replied, replied, unread}
 use Rattle.benchtop.proofs.Answers.{put-answered}
 
@@ -23,6 +24,18 @@ told-fine {b} {name} {word} {ns} {l} {m} {r} e t = subst (λ (x : Bool). Told x 
 
 pub both-true : {P Q : Type 0} {a b : Bool} → Tells P a → Tells Q b → P × Q → a && b ≡ true
 both-true {P} {Q} {a} {b} t u p = let x = t .1 (p .0) in let y = u .1 (p .1) in rw (x, y)
+
+-- by the test of what must hold
+pub told-if : {P : Type 0} {name word ns l m : List ℕ} {r : ℕ} (b : Bool) → Tells P b → Told b name word ns l m r → ToldIf P name word ns l m r
+told-if true t x = record { kept = λ h. x; changed = λ h. absurd (h (t .0 refl)) }
+told-if false t x = record { kept = λ h. absurd (told-no t refl h); changed = λ h. x }
+
+pub both-tell : {P Q : Type 0} (a b : Bool) → Tells P a → Tells Q b → Tells (P × Q) (a && b)
+both-tell true b t u = ((λ e. (t .0 refl, u .0 e)), λ p. u .1 (p .1))
+both-tell false b t u = ((λ e. absurd (told-no no refl e)), λ p. absurd (told-no t refl (p .0)))
+  where
+    no : Tells (false ≡ true) false
+    no = ((λ e. e), λ e. e)
 
 pub said-answered : {Says : List ℕ → List ℕ → Type 0} {name l m : List ℕ} {r : ℕ} → Said Says name l m r → Answered l m r
 said-answered (said x p) = put-answered p
