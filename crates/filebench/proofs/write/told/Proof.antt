@@ -71,7 +71,8 @@ returns c =
     let p = q .before .before .before .before in
     let t = p .before .before .before .before in
     let s = t .before .before .before .before .before in
-    file-told (s .args .size) (s .args .file .now) (s .pre .0) (t .all-bytes .ensures) (both-front (p .put .ensures) (q .put-pairs .ensures)) (w .tell .ensures .0)
+    file-told (s .args .size) (s .args .file .now) (s .pre .0) (t .all-bytes .ensures) (both-front (p .put .ensures) (q .put-pairs .ensures))
+    (w .tell .ensures .0)
 
 pub told-spec : {M : Type 1} → statement M
 told-spec =

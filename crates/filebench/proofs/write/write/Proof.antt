@@ -107,7 +107,8 @@ returns-4 c =
     let w = v .before .before .before .before .before in
     let h = w .before .before .before .before .before in
     let ns = now (h .before .before .before .before .before .before .before .before .before .before .args .numbers) in
-    write-replied (holds h) (w .before .before .before .if1 .left, w .before .if2 .left) (dirt-take (at ns 0) 4096 (w .dirty-bytes .ensures .1) (w .before .before .before .if1 .left))
+    write-replied (holds h) (w .before .before .before .if1 .left, w .before .if2 .left)
+    (dirt-take (at ns 0) 4096 (w .dirty-bytes .ensures .1) (w .before .before .before .if1 .left))
     (v .write-lent .ensures)
 
 pub write-spec : {M : Type 1} → statement M
