@@ -1,4 +1,4 @@
--- The words of the answers on the test bench, as bytes. Assumes nothing: these are definitions.
+-- The words of the answers and of the calls on the test bench, as bytes. Assumes nothing: these are definitions.
 use mathlib.Core.List.{List, [], _∷_}
 use Prim.Native.Nat.{ℕ}
 
@@ -34,3 +34,23 @@ FORCED = 102 ∷ 111 ∷ 114 ∷ 99 ∷ 101 ∷ 100 ∷ []
 
 abbrev pub FREE : List ℕ
 FREE = 102 ∷ 114 ∷ 101 ∷ 101 ∷ []
+
+-- ---- calls; the word of `cause` is that of its answer
+
+abbrev pub CHECK : List ℕ
+CHECK = 99 ∷ 104 ∷ 101 ∷ 99 ∷ 107 ∷ []
+
+abbrev pub TIGHTEN : List ℕ
+TIGHTEN = 116 ∷ 105 ∷ 103 ∷ 104 ∷ 116 ∷ 101 ∷ 110 ∷ []
+
+abbrev pub SOLVE : List ℕ
+SOLVE = 115 ∷ 111 ∷ 108 ∷ 118 ∷ 101 ∷ []
+
+abbrev pub EXPLAIN : List ℕ
+EXPLAIN = 101 ∷ 120 ∷ 112 ∷ 108 ∷ 97 ∷ 105 ∷ 110 ∷ []
+
+abbrev pub READ : List ℕ
+READ = 114 ∷ 101 ∷ 97 ∷ 100 ∷ []
+
+abbrev pub WRITE : List ℕ
+WRITE = 119 ∷ 114 ∷ 105 ∷ 116 ∷ 101 ∷ []

@@ -2,10 +2,14 @@
 use crate::checking::check;
 use crate::tightening::tighten;
 ghost use Rattle.benchtop.specs.Told.{Answered};
+ghost use Rattle.testbench.specs.Called.{Called};
 
 // The call that a word names; one that is not here is looked for among those on block files.
 pub fn call(name: &[u8], word: &[u8], numbers: &[u64], out: &mut [u8]) -> usize
-    ensures { λ r. ⌜ Answered (now (out .entry)) (now (out .exit)) r ⌝ }
+    ensures { λ r. ⌜
+        Called (now (word .entry)) (now (numbers .entry)) (now (name .entry)) (now (out .entry)) (now (out .exit)) r
+        × Answered (now (out .entry)) (now (out .exit)) r
+        ⌝ }
 {
     if check::same(word, b"check") {
         return check(name, numbers, out);

@@ -6,6 +6,7 @@ use lib.ListN.{length}
 use lib.Seq.{length-take-le}
 use denote.Ref.{now}
 use Rattle.lines.specs.Reading.{Parses, LineAt}
+use Rattle.testbench.proofs.Runs.{line-runs, line-not-read}
 use borrow.Author.Needs.{needs}
 use Rattle.testbench.proofs.answer.Statement.{statement}
 use Rattle.testbench.proofs.answer.Tie as tie
@@ -39,7 +40,10 @@ enum-told : tie.Need-enum-told
 enum-told c = search needs
 
 returns : tie.Need-returns
-returns c = search needs
+returns c =
+    let p = c .before .before .before in
+    let n = p .before .before in
+    line-not-read (n .numbers .result) (p .parse .last .1 .0) (sym (n .numbers .ensures)) (c .enum-told .given .1) (p .parse .ensures)
 
 slice-aggregate-call : tie.Need-slice-aggregate-call
 slice-aggregate-call c = sym (length-take-le _ _ (short (c .before)))
@@ -71,7 +75,9 @@ same-length : tie.Need-same-length
 same-length c = search needs
 
 returns-2 : tie.Need-returns-2
-returns-2 c = search needs
+returns-2 c =
+    let v = c .before .before in
+    line-runs (line-read (v .before .before .before .before .before)) (v .call .ensures)
 
 pub answer-spec : {M : Type 1} → statement M
 answer-spec =

@@ -91,8 +91,10 @@ returns-6 c =
     let w = v .before .before .before .before .before in
     let i = w .before .before .before .before .before .before .before in
     let ns = now (i .before .before .before .before .before .before .before .before .before .before .args .numbers) in
-    read-replied (i .before .before .if2 .left) (i .before .if3 .left) (i .if4 .left) (dirt-take (at ns 0) 128 (w .before .dirty-words .ensures .1) (i .before .before .if2 .left))
-    (dirt-take (at ns 1) 4096 (w .dirty-bytes .ensures .1) (omega (arith, i .before .if3 .left))) (slice-aggregate-read-lent (v .before .before .before .before)) (v .read-lent .ensures)
+    read-replied (i .before .before .if2 .left) (i .before .if3 .left) (i .if4 .left)
+    (dirt-take (at ns 0) 128 (w .before .dirty-words .ensures .1) (i .before .before .if2 .left))
+    (dirt-take (at ns 1) 4096 (w .dirty-bytes .ensures .1) (omega (arith, i .before .if3 .left)))
+    (slice-aggregate-read-lent (v .before .before .before .before)) (v .read-lent .ensures)
 
 pub read-spec : {M : Type 1} → statement M
 read-spec =

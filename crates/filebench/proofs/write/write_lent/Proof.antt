@@ -58,7 +58,8 @@ returns-2 c =
     let e = w .before .before .before .before .before in
     let a = e .before .before in
     let v = a .before .before .before .before in
-    refused-said (v .before .before .before .before .before .before .before .pre .1) (v .write .ensures) (a .all-bytes .ensures) (e .answer2 .given .1) (w .tell .ensures .0)
+    refused-said (v .before .before .before .before .before .before .before .pre .1) (v .write .ensures) (a .all-bytes .ensures)
+    (e .answer2 .given .1) (w .tell .ensures .0)
 
 pub write-lent-spec : {M : Type 1} → statement M
 write-lent-spec =
