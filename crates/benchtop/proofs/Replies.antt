@@ -1,13 +1,12 @@
 -- How a call on the test bench comes to what it puts. Assumes nothing.
 use mathlib.Core.Path.{_≡_, refl, sym, ap, subst, _∙_}
 use mathlib.Core.Bool.{Bool, true, false, _&&_}
-use mathlib.Core.List.{List, [], _++_}
-use Prim.Native.Nat.{ℕ, _+_, _-_, _≤_}
-use native.Mathlib.Nat.{zero-add}
+use mathlib.Core.List.{List}
+use Prim.Native.Nat.{ℕ, _+_}
 use native.Mathlib.Omega.{arith}
 use lib.ListN.{length, take, drop, length-drop}
 use lib.Seq.{take-at}
-use Rattle.lines.specs.Putting.{put, LinePut}
+use Rattle.lines.specs.Putting.{LinePut}
 use Rattle.lines.specs.Lists.{Tells}
 use Rattle.lines.proofs.Lists.{told-no}
 use Rattle.benchtop.specs.declared.Problem.{Problem}

@@ -1,8 +1,8 @@
 -- What `read` answers, as the line that is put for it: what was lent is as it must be, so the line never says `altered`. Assumes nothing.
 use mathlib.Core.Path.{_≡_, refl, sym, ap, subst, _∙_}
 use mathlib.Core.Bool.{Bool, _&&_}
-use mathlib.Core.List.{List, [], _∷_, _++_}
-use Prim.Native.Nat.{ℕ, _+_, _*_, _/_, _-_, _≤_}
+use mathlib.Core.List.{List, [], _∷_}
+use Prim.Native.Nat.{ℕ, _+_, _*_, _-_, _≤_}
 use native.Mathlib.Omega.{arith}
 use lib.ListN.{length, take, drop}
 use lib.Seq.{drop-at}
@@ -22,7 +22,7 @@ use Rattle.benchtop.specs.Replied.{Said, said}
 use Rattle.benchtop.proofs.Problems.{part-all}
 use Rattle.benchtop.proofs.Dirts.{drop-all}
 use Rattle.benchtop.proofs.Replies.{told-fine, told-if, both-tell, said-answered}
-use Rattle.filebench.specs.Says.{countsOf, problemLine, Beyond, ReadSays, ReadReplied, read-said, not-read}
+use Rattle.filebench.specs.Says.{problemLine, Beyond, ReadSays, ReadReplied, read-said, not-read}
 
 -- what was put in front leaves the rest, and the length
 put-rest : {y : List ℕ} (a xs : List ℕ) (k : ℕ) → All a 7 → y ≡ put a 0 xs → length xs ≡ k → All (drop k y) 7
