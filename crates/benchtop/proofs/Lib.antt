@@ -1,2 +1,5 @@
 pub mod Problems
 pub mod Answers
+pub mod Dirts
+pub mod Fronts
+pub mod Replies

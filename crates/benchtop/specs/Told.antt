@@ -19,3 +19,8 @@ altered = 97 ∷ 108 ∷ 116 ∷ 101 ∷ 114 ∷ 101 ∷ 100 ∷ []
 abbrev pub Told : Bool → List ℕ → List ℕ → List ℕ → List ℕ → List ℕ → ℕ → Type 0
 Told true name word ns l m r = LinePut name word ns l m r
 Told false name word ns l m r = LinePut name altered [] l m r
+
+-- the same by what must hold: a name, a word and numbers; or the name and `altered`
+pub record ToldIf (P : Type 0) (name word ns l m : List ℕ) (r : ℕ) : Type 0 where
+  pub kept : P → LinePut name word ns l m r
+  pub changed : ¬ P → LinePut name altered [] l m r

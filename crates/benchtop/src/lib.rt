@@ -1,4 +1,5 @@
 // What the calls on the test bench share: the problem in a line's numbers, memory to lend, and the line of an answer.
+pub mod list;
 pub mod memory;
 
 use lines::Listed;

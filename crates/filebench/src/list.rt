@@ -1,21 +1,9 @@
 // Numbers of an answer, one list behind the other.
 ghost use mathlib.Core.Path.{_≡_};
-ghost use Prim.Native.Nat.{_+_, _≤_};
+ghost use Prim.Native.Nat.{_+_, _*_, _≤_};
 ghost use lib.ListN.{length};
 ghost use Rattle.lines.specs.Putting.{Appended};
-
-// A list put at `at`: where it ends.
-pub fn put(out: &mut [u64], at: usize, from: &[u64]) -> usize
-    requires { ⌜ at + length (now from) ≤ length (now out) ⌝ }
-    ensures { λ r. ⌜ Appended (now (out .entry)) at (now (from .entry)) (now (out .exit)) r ⌝ }
-{
-    let mut i = 0;
-    while i < from.len() {
-        out[at + i] = from[i];
-        i += 1;
-    }
-    at + i
-}
+ghost use Rattle.filebench.specs.Pairs.{pairOf, pairs};
 
 fn wide(x: u8) -> u64
     ensures { λ r. ⌜ r ≡ x ⌝ }
@@ -36,10 +24,17 @@ pub fn put_bytes(out: &mut [u64], at: usize, from: &[u8]) -> usize
     at + i
 }
 
-// A byte that is not 0 put at `at` with its position: where the pair ends, or where it would begin.
+// Room for a file's length, and for its bytes, each after its position.
+pub fn room() -> [u64; 8193]
+    ensures { λ r. ⌜ 8193 ≡ length r ⌝ }
+{
+    [0; 8193]
+}
+
+// A byte that is not 0 put at `at` after its position: where the pair ends, or where it would begin.
 fn put_pair(out: &mut [u64], at: usize, position: usize, x: u8) -> usize
     requires { ⌜ at + 2 ≤ length (now out) ⌝ }
-    ensures { λ r. ⌜ (at ≤ r) × (r ≤ at + 2) ⌝ }
+    ensures { λ r. ⌜ Appended (now (out .entry)) at (pairOf position x) (now (out .exit)) r ⌝ }
 {
     if x == 0 {
         return at;
@@ -49,17 +44,14 @@ fn put_pair(out: &mut [u64], at: usize, position: usize, x: u8) -> usize
     at + 2
 }
 
-// The bytes that are not 0, each after its position, put at `at`: where they end, or 0 where there may be no room for the next one.
+// The bytes that are not 0, each after its position, put at `at`: where they end.
 pub fn put_pairs(out: &mut [u64], at: usize, from: &[u8]) -> usize
-    requires { ⌜ at ≤ length (now out) ⌝ }
-    ensures { λ r. ⌜ r ≤ length (now (out .exit)) ⌝ }
+    requires { ⌜ at + 2 * length (now from) ≤ length (now out) ⌝ }
+    ensures { λ r. ⌜ Appended (now (out .entry)) at (pairs (length (now (from .entry))) (now (from .entry))) (now (out .exit)) r ⌝ }
 {
     let mut e = at;
     let mut i = 0;
     while i < from.len() {
-        if out.len() - e < 2 {
-            return 0;
-        }
         e = put_pair(out, e, i, from[i]);
         i += 1;
     }

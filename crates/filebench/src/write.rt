@@ -1,28 +1,36 @@
 // The call `write LENGTH LIMIT`: how many bytes are lent for the file, and the limit. Then come the words and the rules.
 use crate::FILE;
 use crate::list::put_pairs;
+use crate::list::room;
 use benchtop::Problem;
+use benchtop::list::put;
 use benchtop::memory;
 use benchtop::memory::DIRT_BYTE;
 use benchtop::problem_of;
 use benchtop::tell;
 use blocks::Written;
-ghost use Rattle.benchtop.specs.Told.{Answered};
+ghost use mathlib.Core.List.{_∷_};
+ghost use Prim.Native.Nat.{_≤_};
+ghost use lib.ListN.{length, take, drop};
+ghost use Rattle.lines.specs.Lists.{All};
+ghost use Rattle.benchtop.specs.Words.{OK};
+ghost use Rattle.benchtop.specs.Told.{Answered, ToldIf};
+ghost use Rattle.benchtop.specs.Replied.{Said};
+ghost use Rattle.filebench.specs.Pairs.{pairs};
+ghost use Rattle.filebench.specs.Says.{WriteSays, WriteReplied};
 
 // The answer OK: the file's length, and its bytes that are not 0, each after its position. What was lent beyond is as it was.
 fn told(name: &[u8], file: &[u8], size: usize, out: &mut [u8]) -> usize
-    ensures { λ r. ⌜ Answered (now (out .entry)) (now (out .exit)) r ⌝ }
+    requires { ⌜ (size ≤ length (now file)) × (length (now file) ≤ 4096) ⌝ }
+    ensures { λ r. ⌜
+        ToldIf (All (drop size (now (file .entry))) 7) (now (name .entry)) OK (size ∷ pairs size (take size (now (file .entry)))) (now (out .entry))
+        (now (out .exit)) r
+        ⌝ }
 {
-    if file.len() < size {
-        return 0;
-    }
     let fine = lines::all_bytes(&file[size..], DIRT_BYTE);
-    let mut numbers = memory::numbers();
-    numbers[0] = size as u64;
-    let k = put_pairs(&mut numbers, 1, &file[..size]);
-    if k == 0 {
-        return 0;
-    }
+    let mut numbers = room();
+    let a = put(&mut numbers, 0, &[size as u64]);
+    let k = put_pairs(&mut numbers, a, &file[..size]);
     tell(out, name, fine, b"ok", &numbers[..k])
 }
 
@@ -35,7 +43,10 @@ fn write_lent(
     file: &mut [u8],
     out: &mut [u8],
 ) -> usize
-    ensures { λ r. ⌜ Answered (now (out .entry)) (now (out .exit)) r ⌝ }
+    requires { ⌜ (length (now file) ≤ 4096) × All (now file) 7 ⌝ }
+    ensures { λ r. ⌜
+        Said (WriteSays limit (now (file .entry)) (now (words .entry)) (now (rules .entry))) (now (name .entry)) (now (out .entry)) (now (out .exit)) r
+        ⌝ }
 {
     let answer = writer::write(words, rules, limit, file);
     let untouched = lines::all_bytes(file, DIRT_BYTE);
@@ -46,7 +57,9 @@ fn write_lent(
 }
 
 pub fn write(name: &[u8], numbers: &[u64], out: &mut [u8]) -> usize
-    ensures { λ r. ⌜ Answered (now (out .entry)) (now (out .exit)) r ⌝ }
+    ensures { λ r. ⌜
+        WriteReplied (now (numbers .entry)) (now (name .entry)) (now (out .entry)) (now (out .exit)) r × Answered (now (out .entry)) (now (out .exit)) r
+        ⌝ }
 {
     let mut rules = memory::rules();
     let Problem::Is { end, count } = problem_of(numbers, 2, &mut rules) else {

@@ -8,7 +8,13 @@ use benchtop::memory::DIRT;
 use benchtop::problem_of;
 use benchtop::tell;
 use cause::Caused;
+ghost use Prim.Native.Nat.{_≤_};
+ghost use lib.ListN.{length};
+ghost use Rattle.lines.specs.Lists.{All};
 ghost use Rattle.benchtop.specs.Told.{Answered};
+ghost use Rattle.benchtop.specs.Replied.{Said};
+ghost use Rattle.solvebench.specs.Replies.{CauseReplied};
+ghost use Rattle.solvebench.specs.Says.{CauseSays};
 
 // Work memory is all 0 but after a refusal, when it is as it was; the list is as it was but after a cause.
 fn cause_lent(
@@ -20,7 +26,11 @@ fn cause_lent(
     work: &mut [u64],
     out: &mut [u8],
 ) -> usize
-    ensures { λ r. ⌜ Answered (now (out .entry)) (now (out .exit)) r ⌝ }
+    requires { ⌜ (length (now entries) ≤ 500) × All (now entries) 7 × All (now work) 7 ⌝ }
+    ensures { λ r. ⌜
+        Said (CauseSays limit (now (entries .entry)) (now (work .entry)) (now (words .entry)) (now (rules .entry)))
+        (now (name .entry)) (now (out .entry)) (now (out .exit)) r
+        ⌝ }
 {
     let answer = cause::cause(words, rules, limit, entries, work);
     let same = list::is_dirty(entries);
@@ -49,7 +59,9 @@ fn cause_lent(
 }
 
 pub fn cause(name: &[u8], numbers: &[u64], out: &mut [u8]) -> usize
-    ensures { λ r. ⌜ Answered (now (out .entry)) (now (out .exit)) r ⌝ }
+    ensures { λ r. ⌜
+        CauseReplied (now (numbers .entry)) (now (name .entry)) (now (out .entry)) (now (out .exit)) r × Answered (now (out .entry)) (now (out .exit)) r
+        ⌝ }
 {
     let mut rules = memory::rules();
     let Problem::Is { end, count } = problem_of(numbers, 3, &mut rules) else {

@@ -6,7 +6,13 @@ use benchtop::memory;
 use benchtop::problem_of;
 use benchtop::tell;
 use explain::Explained;
+ghost use Prim.Native.Nat.{_≤_};
+ghost use lib.ListN.{length};
+ghost use Rattle.lines.specs.Lists.{All};
 ghost use Rattle.benchtop.specs.Told.{Answered};
+ghost use Rattle.benchtop.specs.Replied.{Said};
+ghost use Rattle.solvebench.specs.Replies.{ExplainReplied};
+ghost use Rattle.solvebench.specs.Says.{ExplainSays};
 
 // CONFLICT is told with 0 in place of a value. After FREE and a refusal the list is as it was.
 fn explain_lent(
@@ -19,7 +25,11 @@ fn explain_lent(
     entries: &mut [u16],
     out: &mut [u8],
 ) -> usize
-    ensures { λ r. ⌜ Answered (now (out .entry)) (now (out .exit)) r ⌝ }
+    requires { ⌜ (length (now entries) ≤ 500) × All (now entries) 7 ⌝ }
+    ensures { λ r. ⌜
+        Said (ExplainSays rule place bit (now (entries .entry)) (now (words .entry)) (now (rules .entry)))
+        (now (name .entry)) (now (out .entry)) (now (out .exit)) r
+        ⌝ }
 {
     let answer = explain::explain(words, rules, rule, place, bit, entries);
     let same = list::is_dirty(entries);
@@ -48,7 +58,9 @@ fn explain_lent(
 }
 
 pub fn explain(name: &[u8], numbers: &[u64], out: &mut [u8]) -> usize
-    ensures { λ r. ⌜ Answered (now (out .entry)) (now (out .exit)) r ⌝ }
+    ensures { λ r. ⌜
+        ExplainReplied (now (numbers .entry)) (now (name .entry)) (now (out .entry)) (now (out .exit)) r × Answered (now (out .entry)) (now (out .exit)) r
+        ⌝ }
 {
     let mut rules = memory::rules();
     let Problem::Is { end, count } = problem_of(numbers, 4, &mut rules) else {

@@ -8,7 +8,13 @@ use benchtop::memory::DIRT;
 use benchtop::problem_of;
 use benchtop::tell;
 use solve::Solved;
+ghost use Prim.Native.Nat.{_≤_};
+ghost use lib.ListN.{length};
+ghost use Rattle.lines.specs.Lists.{All};
 ghost use Rattle.benchtop.specs.Told.{Answered};
+ghost use Rattle.benchtop.specs.Replied.{Said};
+ghost use Rattle.solvebench.specs.Replies.{SolveReplied};
+ghost use Rattle.solvebench.specs.Says.{SolveSays};
 
 // After FOUND, NONE and GAVE UP work memory is all 0; after NONE, GAVE UP and a refusal the model is as it was, and after a refusal work memory is too.
 fn solve_lent(
@@ -20,7 +26,11 @@ fn solve_lent(
     work: &mut [u64],
     out: &mut [u8],
 ) -> usize
-    ensures { λ r. ⌜ Answered (now (out .entry)) (now (out .exit)) r ⌝ }
+    requires { ⌜ (length (now model) ≤ 500) × All (now model) 7 × All (now work) 7 ⌝ }
+    ensures { λ r. ⌜
+        Said (SolveSays limit (now (model .entry)) (now (work .entry)) (now (words .entry)) (now (rules .entry)))
+        (now (name .entry)) (now (out .entry)) (now (out .exit)) r
+        ⌝ }
 {
     let answer = solve::solve(words, rules, limit, model, work);
     let same = lines::all(model, DIRT);
@@ -49,7 +59,9 @@ fn solve_lent(
 }
 
 pub fn solve(name: &[u8], numbers: &[u64], out: &mut [u8]) -> usize
-    ensures { λ r. ⌜ Answered (now (out .entry)) (now (out .exit)) r ⌝ }
+    ensures { λ r. ⌜
+        SolveReplied (now (numbers .entry)) (now (name .entry)) (now (out .entry)) (now (out .exit)) r × Answered (now (out .entry)) (now (out .exit)) r
+        ⌝ }
 {
     let mut rules = memory::rules();
     let Problem::Is { end, count } = problem_of(numbers, 3, &mut rules) else {

@@ -4,9 +4,12 @@ use benchtop::memory;
 use benchtop::problem_of;
 use benchtop::tell;
 ghost use Rattle.benchtop.specs.Told.{Answered};
+ghost use Rattle.testbench.specs.Says.{CheckReplied};
 
 pub fn check(name: &[u8], numbers: &[u64], out: &mut [u8]) -> usize
-    ensures { λ r. ⌜ Answered (now (out .entry)) (now (out .exit)) r ⌝ }
+    ensures { λ r. ⌜
+        CheckReplied (now (numbers .entry)) (now (name .entry)) (now (out .entry)) (now (out .exit)) r × Answered (now (out .entry)) (now (out .exit)) r
+        ⌝ }
 {
     let mut rules = memory::rules();
     let Problem::Is { end, count } = problem_of(numbers, 1, &mut rules) else {

@@ -1,10 +1,15 @@
 // The call `tighten WORK`, the length of work memory. Then come the words and the rules.
 use benchtop::Problem;
+use benchtop::list::put;
 use benchtop::memory;
 use benchtop::problem_of;
 use benchtop::tell;
 use tighten::Answer;
+ghost use mathlib.Core.Path.{_≡_};
+ghost use Rattle.lines.specs.Lists.{All};
 ghost use Rattle.benchtop.specs.Told.{Answered};
+ghost use Rattle.benchtop.specs.Replied.{Said};
+ghost use Rattle.testbench.specs.Says.{TightenSays, TightenReplied};
 
 // The most numbers of work memory that a line may ask for.
 const WORK: usize = 512;
@@ -18,7 +23,10 @@ fn tighten_lent(
     work: &mut [u64],
     out: &mut [u8],
 ) -> usize
-    ensures { λ r. ⌜ Answered (now (out .entry)) (now (out .exit)) r ⌝ }
+    requires { ⌜ (now words ≡ now kept) × All (now work) 7 ⌝ }
+    ensures { λ r. ⌜
+        Said (TightenSays (now (work .entry)) (now (kept .entry)) (now (rules .entry))) (now (name .entry)) (now (out .entry)) (now (out .exit)) r
+        ⌝ }
 {
     let answer = tighten::tighten(words, rules, work);
     let same = lines::same(words, kept);
@@ -37,25 +45,27 @@ fn tighten_lent(
     }
 }
 
-pub fn tighten(name: &[u8], numbers: &mut [u64], kept: &[u64], out: &mut [u8]) -> usize
-    ensures { λ r. ⌜ Answered (now (out .entry)) (now (out .exit)) r ⌝ }
+// The words are lent as a copy.
+pub fn tighten(name: &[u8], numbers: &[u64], out: &mut [u8]) -> usize
+    ensures { λ r. ⌜
+        TightenReplied (now (numbers .entry)) (now (name .entry)) (now (out .entry)) (now (out .exit)) r × Answered (now (out .entry)) (now (out .exit)) r
+        ⌝ }
 {
     let mut rules = memory::rules();
-    let Problem::Is { end, count } = problem_of(kept, 1, &mut rules) else {
+    let Problem::Is { end, count } = problem_of(numbers, 1, &mut rules) else {
         return 0;
     };
-    if numbers.len() < end {
-        return 0;
-    }
-    let length = kept[0] as usize;
+    let length = numbers[0] as usize;
     if WORK < length {
         return 0;
     }
+    let mut words = memory::dirty_words();
+    let n = put(&mut words, 0, &numbers[2..end]);
     let mut work = memory::work();
     tighten_lent(
         name,
-        &mut numbers[2..end],
-        &kept[2..end],
+        &mut words[..n],
+        &numbers[2..end],
         &rules[..count],
         &mut work[..length],
         out,

@@ -6,6 +6,7 @@ use lib.ListN.{length}
 use lib.Seq.{length-take-le}
 use denote.Ref.{now}
 use Rattle.lines.specs.Reading.{Parses, LineAt}
+use Rattle.testbench.proofs.Runs.{line-runs, line-not-read}
 use borrow.Author.Needs.{needs}
 use Rattle.testbench.proofs.answer.Statement.{statement}
 use Rattle.testbench.proofs.answer.Tie as tie
@@ -13,29 +14,18 @@ use Rattle.testbench.proofs.answer.Tie as tie
 -- the line as it was read
 line-read : (c : tie.After-known-told)
     → let p = c .before .before .before .before in
-    let s = p .before .before .before .before .before .before in
+    let s = p .before .before .before .before .before in
     let g = c .before .name .given .0 in
-    LineAt (now (s .args .line)) (g .0) (g .1 .0) (g .1 .1 .0) (p .before .before .before .numbers .result) (p .parse .last .1 .0)
+    LineAt (now (s .args .line)) (g .0) (g .1 .0) (g .1 .1 .0) (p .before .before .numbers .result) (p .parse .last .1 .0)
 line-read c = subst (Parses _ _ _) (c .before .name .given .1) (c .before .before .before .before .parse .ensures)
 
--- the second reading has the room of the first
-room : (c : tie.After-parse2) → c .before .before .before .name .given .0 .1 .1 .0 ≤ length (c .parse2 .last .1 .0)
-room c =
-    let k = c .before .before in
-    let p = k .before .before .before .before in
-    let n = p .before .before in
-    omega (arith, line-read k .within, p .parse .kept .1 .0, c .parse2 .kept .1 .0, n .numbers2 .ensures, n .before .numbers .ensures)
-
 short : (c : tie.After-known-told)
-    → let s = c .before .before .before .before .before .before .before .before .before .before in
+    → let s = c .before .before .before .before .before .before .before .before .before in
     c .before .name .given .0 .0 ≤ length (now (s .args .line))
 short c = omega (arith, line-read c .name, line-read c .word)
 
 numbers-requires : tie.Need-numbers-requires
 numbers-requires c κs = search needs
-
-numbers-requires-2 : tie.Need-numbers-requires-2
-numbers-requires-2 c κs = search needs
 
 slice-aggregate-parse : tie.Need-slice-aggregate-parse
 slice-aggregate-parse c = search needs
@@ -50,42 +40,33 @@ enum-told : tie.Need-enum-told
 enum-told c = search needs
 
 returns : tie.Need-returns
-returns c = search needs
-
-slice-aggregate-parse-2 : tie.Need-slice-aggregate-parse-2
-slice-aggregate-parse-2 c = search needs
-
-parse-requires-2 : tie.Need-parse-requires-2
-parse-requires-2 c κs = search needs
+returns c =
+    let p = c .before .before .before in
+    let n = p .before .before in
+    line-not-read (n .numbers .result) (p .parse .last .1 .0) (sym (n .numbers .ensures)) (c .enum-told .given .1) (p .parse .ensures)
 
 slice-aggregate-call : tie.Need-slice-aggregate-call
-slice-aggregate-call c = sym (length-take-le _ _ (short (c .before .before .before .before)))
+slice-aggregate-call c = sym (length-take-le _ _ (short (c .before)))
 
 add-call : tie.Need-add-call
 add-call c =
-    let k = c .before .before .before .before in
+    let k = c .before in
     record { fits = omega (arith, short k, line-read k .name, line-read k .word) }
 
 sub-call : tie.Need-sub-call
-sub-call c = omega (arith, line-read (c .before .before .before .before) .name)
+sub-call c = omega (arith, line-read (c .before) .name)
 
 part-call-start : tie.Need-part-call-start
-part-call-start c = omega (arith, line-read (c .before .before .before .before) .name)
+part-call-start c = omega (arith, line-read (c .before) .name)
 
 part-call-end : tie.Need-part-call-end
-part-call-end c = line-read (c .before .before .before .before) .word
+part-call-end c = line-read (c .before) .word
 
-array-borrow-prefix-numbers : tie.Need-array-borrow-prefix-numbers
-array-borrow-prefix-numbers c = line-read (c .before .before .before .before .before) .within
+array-share-prefix-numbers : tie.Need-array-share-prefix-numbers
+array-share-prefix-numbers c = line-read (c .before .before) .within
 
 slice-aggregate-call-2 : tie.Need-slice-aggregate-call-2
-slice-aggregate-call-2 c = sym (length-take-le _ _ (line-read (c .before .before .before .before .before .before) .within))
-
-array-share-prefix-kept : tie.Need-array-share-prefix-kept
-array-share-prefix-kept c = room (c .before .before .before .before)
-
-slice-aggregate-call-3 : tie.Need-slice-aggregate-call-3
-slice-aggregate-call-3 c = sym (length-take-le _ _ (room (c .before .before .before .before .before)))
+slice-aggregate-call-2 c = sym (length-take-le _ _ (line-read (c .before .before .before) .within))
 
 call-requires : tie.Need-call-requires
 call-requires c κs = search needs
@@ -94,30 +75,27 @@ same-length : tie.Need-same-length
 same-length c = search needs
 
 returns-2 : tie.Need-returns-2
-returns-2 c = search needs
+returns-2 c =
+    let v = c .before .before in
+    line-runs (line-read (v .before .before .before .before .before)) (v .call .ensures)
 
 pub answer-spec : {M : Type 1} → statement M
 answer-spec =
     tie.close
     (tie.spec
     numbers-requires
-    numbers-requires-2
     slice-aggregate-parse
     parse-requires
     enum-known-name
     enum-told
     returns
-    slice-aggregate-parse-2
-    parse-requires-2
     slice-aggregate-call
     add-call
     sub-call
     part-call-start
     part-call-end
-    array-borrow-prefix-numbers
+    array-share-prefix-numbers
     slice-aggregate-call-2
-    array-share-prefix-kept
-    slice-aggregate-call-3
     call-requires
     same-length
     returns-2)

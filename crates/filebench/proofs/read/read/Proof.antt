@@ -1,12 +1,16 @@
 -- `filebench::read::read` meets its contract. Assumes nothing.
 use native.Mathlib.Omega.{arith}
 use lib.ListN.{length-append, length-take, length-drop}
+use denote.Ref.{now}
+use Rattle.words.specs.Table.{at}
+use Rattle.benchtop.proofs.Dirts.{dirt-take, dirt-lent}
+use Rattle.filebench.proofs.Reading.{read-replied, unread}
 use borrow.Author.Needs.{needs}
 use Rattle.filebench.proofs.read.read.Statement.{statement}
 use Rattle.filebench.proofs.read.read.Tie as tie
 
 returns : tie.Need-returns
-returns c = search needs
+returns c = unread
 
 shared-slice-read-w : tie.Need-shared-slice-read-w
 shared-slice-read-w c = search needs
@@ -18,13 +22,13 @@ shared-slice-read-length : tie.Need-shared-slice-read-length
 shared-slice-read-length c = search needs
 
 returns-2 : tie.Need-returns-2
-returns-2 c = search needs
+returns-2 c = unread
 
 returns-3 : tie.Need-returns-3
-returns-3 c = search needs
+returns-3 c = unread
 
 returns-4 : tie.Need-returns-4
-returns-4 c = search needs
+returns-4 c = unread
 
 file-requires : tie.Need-file-requires
 file-requires c κs = search needs
@@ -39,7 +43,7 @@ put-runs-requires : tie.Need-put-runs-requires
 put-runs-requires c κs = simp length-take (omega arith)
 
 returns-5 : tie.Need-returns-5
-returns-5 c = search needs
+returns-5 c = unread
 
 dirty-words-requires : tie.Need-dirty-words-requires
 dirty-words-requires c κs = search needs
@@ -70,13 +74,27 @@ slice-aggregate-read-lent-3 : tie.Need-slice-aggregate-read-lent-3
 slice-aggregate-read-lent-3 c = simp length-take (omega arith)
 
 read-lent-requires : tie.Need-read-lent-requires
-read-lent-requires c κs = simp length-take (omega arith)
+read-lent-requires c κs =
+    let w = c .before .before .before .before in
+    let i = w .before .before .before .before .before .before .before in
+    let ns = now (i .before .before .before .before .before .before .before .before .before .before .args .numbers) in
+    let a = dirt-lent (at ns 0) 128 (w .before .dirty-words .ensures .1) (i .before .before .if2 .left) in
+    let b = dirt-lent (at ns 1) 4096 (w .dirty-bytes .ensures .1) (omega (arith, i .before .if3 .left)) in
+    (a .0, omega (arith, length-take (at ns 1) (w .dirty-bytes .result), i .before .if3 .left), a .1, b .1)
 
 same-length : tie.Need-same-length
 same-length c = search needs
 
 returns-6 : tie.Need-returns-6
-returns-6 c = search needs
+returns-6 c =
+    let v = c .before .before .before .before in
+    let w = v .before .before .before .before .before in
+    let i = w .before .before .before .before .before .before .before in
+    let ns = now (i .before .before .before .before .before .before .before .before .before .before .args .numbers) in
+    read-replied (i .before .before .if2 .left) (i .before .if3 .left) (i .if4 .left)
+    (dirt-take (at ns 0) 128 (w .before .dirty-words .ensures .1) (i .before .before .if2 .left))
+    (dirt-take (at ns 1) 4096 (w .dirty-bytes .ensures .1) (omega (arith, i .before .if3 .left)))
+    (slice-aggregate-read-lent (v .before .before .before .before)) (v .read-lent .ensures)
 
 pub read-spec : {M : Type 1} → statement M
 read-spec =

@@ -1,15 +1,11 @@
 -- `filebench::read::told` meets its contract. Assumes nothing.
 use native.Mathlib.Omega.{arith}
 use lib.ListN.{length-take}
+use Rattle.benchtop.proofs.Fronts.{front, front-length}
+use Rattle.filebench.proofs.Reading.{problem-told}
 use borrow.Author.Needs.{needs}
 use Rattle.filebench.proofs.read.told.Statement.{statement}
 use Rattle.filebench.proofs.read.told.Tie as tie
-
-returns : tie.Need-returns
-returns c = search needs
-
-returns-2 : tie.Need-returns-2
-returns-2 c = search needs
 
 mul-w : tie.Need-mul-w
 mul-w c = search needs
@@ -66,7 +62,7 @@ array-share-prefix-numbers : tie.Need-array-share-prefix-numbers
 array-share-prefix-numbers c = search needs
 
 slice-aggregate-tell-2 : tie.Need-slice-aggregate-tell-2
-slice-aggregate-tell-2 c = simp length-take (omega arith)
+slice-aggregate-tell-2 c = front-length (c .before .before .before .before .listed .ensures)
 
 tell-requires : tie.Need-tell-requires
 tell-requires c κs = search needs
@@ -74,15 +70,20 @@ tell-requires c κs = search needs
 same-length : tie.Need-same-length
 same-length c = search needs
 
-returns-3 : tie.Need-returns-3
-returns-3 c = search needs
+returns : tie.Need-returns
+returns c =
+    let w = c .before .before in
+    let q = w .before .before .before .before .before in
+    let t = q .before .before .before .before .before in
+    let u = t .before .before in
+    let s = u .before .before .before .before .before .before in
+    problem-told (s .args .x) (s .args .words .now) (s .args .rules .now) (u .all .ensures) (t .all-bytes .ensures) (front (q .listed .ensures))
+    (w .tell .ensures .0)
 
 pub told-spec : {M : Type 1} → statement M
 told-spec =
     tie.close
     (tie.spec
-    returns
-    returns-2
     mul-w
     mul-r
     mul-all
@@ -104,4 +105,4 @@ told-spec =
     slice-aggregate-tell-2
     tell-requires
     same-length
-    returns-3)
+    returns)

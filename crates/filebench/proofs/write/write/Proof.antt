@@ -6,6 +6,10 @@ use lib.Seq.{length-take-le}
 use denote.Ref.{now}
 use Rattle.benchtop.specs.Parts.{Parts}
 use Rattle.benchtop.proofs.Problems.{PartsAt, parts-at}
+use Rattle.words.specs.Table.{at}
+use Rattle.benchtop.proofs.Dirts.{dirt-take, dirt-lent}
+use Rattle.benchtop.proofs.Replies.{Held, held, no-problem, not-fair}
+use Rattle.filebench.proofs.Writing.{write-replied}
 use borrow.Author.Needs.{needs}
 use Rattle.filebench.proofs.write.write.Statement.{statement}
 use Rattle.filebench.proofs.write.write.Tie as tie
@@ -16,6 +20,16 @@ parts : (c : tie.After-known-told)
     let s = p .before .before .before .before .before .before in
     PartsAt (now (s .args .numbers)) 2 (p .problem-of .last .1 .1 .0) (c .before .end .given .0 .0) (c .before .end .given .0 .1 .0)
 parts c = parts-at _ _ _ _ _ _ (subst (Parts _ _ _ _) (c .before .end .given .1) (c .before .before .before .before .problem-of .ensures))
+
+-- the problem that they are
+holds : (c : tie.After-known-told)
+    → let p = c .before .before .before .before in
+    let s = p .before .before .before .before .before .before in
+    Held (now (s .args .numbers)) 2 (p .problem-of .last .1 .1 .0) (c .before .end .given .0 .0) (c .before .end .given .0 .1 .0)
+holds c =
+    let p = c .before .before .before .before in
+    let r = p .before .before in
+    held (r .rules .result) (sym (r .rules .ensures)) (c .before .end .given .1) (p .problem-of .ensures)
 
 rules-requires : tie.Need-rules-requires
 rules-requires c κs = search needs
@@ -33,19 +47,22 @@ enum-told : tie.Need-enum-told
 enum-told c = search needs
 
 returns : tie.Need-returns
-returns c = search needs
+returns c =
+    let p = c .before .before .before in
+    let r = p .before .before in
+    no-problem (r .rules .result) (p .problem-of .last .1 .1 .0) (sym (r .rules .ensures)) (c .enum-told .given .1) (p .problem-of .ensures)
 
 shared-slice-read-length : tie.Need-shared-slice-read-length
 shared-slice-read-length c = omega (arith, parts (c .before) .whole)
 
 returns-2 : tie.Need-returns-2
-returns-2 c = search needs
+returns-2 c = not-fair (λ f. omega (arith, f .0, c .if1 .taken))
 
 shared-slice-read-limit : tie.Need-shared-slice-read-limit
 shared-slice-read-limit c = omega (arith, parts (c .before .before .before) .words, parts (c .before .before .before) .whole)
 
 returns-3 : tie.Need-returns-3
-returns-3 c = search needs
+returns-3 c = not-fair (λ f. omega (arith, f .1, c .if2 .taken))
 
 dirty-bytes-requires : tie.Need-dirty-bytes-requires
 dirty-bytes-requires c κs = search needs
@@ -75,13 +92,24 @@ slice-aggregate-write-lent-2 : tie.Need-slice-aggregate-write-lent-2
 slice-aggregate-write-lent-2 c = simp length-take (omega arith)
 
 write-lent-requires : tie.Need-write-lent-requires
-write-lent-requires c κs = search needs
+write-lent-requires c κs =
+    let w = c .before .before .before .before in
+    let h = w .before .before .before .before .before in
+    let ns = now (h .before .before .before .before .before .before .before .before .before .before .args .numbers) in
+    dirt-lent (at ns 0) 4096 (w .dirty-bytes .ensures .1) (w .before .before .before .if1 .left)
 
 same-length : tie.Need-same-length
 same-length c = search needs
 
 returns-4 : tie.Need-returns-4
-returns-4 c = search needs
+returns-4 c =
+    let v = c .before .before .before in
+    let w = v .before .before .before .before .before in
+    let h = w .before .before .before .before .before in
+    let ns = now (h .before .before .before .before .before .before .before .before .before .before .args .numbers) in
+    write-replied (holds h) (w .before .before .before .if1 .left, w .before .if2 .left)
+    (dirt-take (at ns 0) 4096 (w .dirty-bytes .ensures .1) (w .before .before .before .if1 .left))
+    (v .write-lent .ensures)
 
 pub write-spec : {M : Type 1} → statement M
 write-spec =

@@ -6,7 +6,10 @@ use lib.ListN.{getD}
 use denote.Ref.{now}
 use Rattle.benchtop.specs.Parts.{Parts}
 use Rattle.benchtop.proofs.Problems.{PartsAt, parts-at}
-use denote.Ref.{now}
+use Rattle.words.specs.Table.{at}
+use Rattle.benchtop.proofs.Dirts.{dirt-take, dirt-lent}
+use Rattle.benchtop.proofs.Replies.{Held, held, no-problem, not-fair}
+use Rattle.solvebench.proofs.Explains.{explain-replied}
 use borrow.Author.Needs.{needs}
 use Rattle.solvebench.proofs.explaining.explain.Statement.{statement}
 use Rattle.solvebench.proofs.explaining.explain.Tie as tie
@@ -17,6 +20,16 @@ parts : (c : tie.After-known-told)
     let s = p .before .before .before .before .before .before in
     PartsAt (now (s .args .numbers)) 4 (p .problem-of .last .1 .1 .0) (c .before .end .given .0 .0) (c .before .end .given .0 .1 .0)
 parts c = parts-at _ _ _ _ _ _ (subst (Parts _ _ _ _) (c .before .end .given .1) (c .before .before .before .before .problem-of .ensures))
+
+-- the problem that they are
+holds : (c : tie.After-known-told)
+    → let p = c .before .before .before .before in
+    let s = p .before .before .before .before .before .before in
+    Held (now (s .args .numbers)) 4 (p .problem-of .last .1 .1 .0) (c .before .end .given .0 .0) (c .before .end .given .0 .1 .0)
+holds c =
+    let p = c .before .before .before .before in
+    let r = p .before .before in
+    held (r .rules .result) (sym (r .rules .ensures)) (c .before .end .given .1) (p .problem-of .ensures)
 
 rules-requires : tie.Need-rules-requires
 rules-requires c κs = search needs
@@ -34,7 +47,10 @@ enum-told : tie.Need-enum-told
 enum-told c = search needs
 
 returns : tie.Need-returns
-returns c = search needs
+returns c =
+    let p = c .before .before .before in
+    let r = p .before .before in
+    no-problem (r .rules .result) (p .problem-of .last .1 .1 .0) (sym (r .rules .ensures)) (c .enum-told .given .1) (p .problem-of .ensures)
 
 shared-slice-read-rule : tie.Need-shared-slice-read-rule
 shared-slice-read-rule c = let q = parts (c .before) in omega (arith, q .words, q .whole)
@@ -49,7 +65,7 @@ shared-slice-read-room : tie.Need-shared-slice-read-room
 shared-slice-read-room c = let q = parts (c .before .before .before .before) in omega (arith, q .words, q .whole)
 
 returns-2 : tie.Need-returns-2
-returns-2 c = search needs
+returns-2 c = not-fair (λ f. omega (arith, f, c .if1 .taken))
 
 entries-requires : tie.Need-entries-requires
 entries-requires c κs = search needs
@@ -79,13 +95,24 @@ slice-aggregate-explain-lent-2 c =
     sym (length-take-le (getD (now (s .args .numbers)) 3 0) (w .entries .result) (omega (arith, w .entries .ensures, w .before .if1 .left)))
 
 explain-lent-requires : tie.Need-explain-lent-requires
-explain-lent-requires c κs = search needs
+explain-lent-requires c κs =
+    let w = c .before .before .before .before in
+    let h = w .before .before .before .before .before .before in
+    let ns = now (h .before .before .before .before .before .before .before .before .before .before .args .numbers) in
+    let m = dirt-lent (at ns 3) 256 (w .entries .ensures .1) (w .before .if1 .left) in
+    (omega (arith, m .0), m .1)
 
 same-length : tie.Need-same-length
 same-length c = search needs
 
 returns-3 : tie.Need-returns-3
-returns-3 c = search needs
+returns-3 c =
+    let v = c .before .before .before in
+    let w = v .before .before .before .before .before in
+    let h = w .before .before .before .before .before .before in
+    let ns = now (h .before .before .before .before .before .before .before .before .before .before .args .numbers) in
+    explain-replied (holds h) (w .before .if1 .left) (dirt-take (at ns 3) 256 (w .entries .ensures .1) (w .before .if1 .left))
+    (v .explain-lent .ensures)
 
 pub explain-spec : {M : Type 1} → statement M
 explain-spec =

@@ -1,20 +1,22 @@
 -- `solvebench::list::put_entries` meets its contract. Assumes nothing.
 use mathlib.Core.Path.{_≡_, refl}
-use Prim.Native.Nat.{_-_, _≤_}
+use Prim.Native.Nat.{_+_, _-_, _≤_}
 use native.Mathlib.Omega.{arith}
-use lib.ListN.{length, length-set}
+use lib.ListN.{length, take, length-set}
+use Rattle.lines.specs.Putting.{Appended}
+use Rattle.lines.proofs.Puts.{bytes-start, bytes-turn, bytes-end}
 use borrow.Author.Needs.{needs}
 use Rattle.solvebench.proofs.list.put_entries.Statement.{statement}
 use Rattle.solvebench.proofs.list.put_entries.Tie as tie
 
 abbrev Inv-loop : tie.InvT-loop
-Inv-loop told₀ from i₀ told i = (length told ≡ length told₀) × (i ≤ length from)
+Inv-loop out₀ at from i₀ out i = Appended out₀ at (take i from) out (at + i) × (length out ≡ length out₀) × (i ≤ length from)
 
 abbrev μ-loop : tie.MeasureT-loop
-μ-loop told₀ from i₀ told i = length from - i
+μ-loop out₀ at from i₀ out i = length from - i
 
 loop-holds : tie.Need-loop-holds Inv-loop μ-loop
-loop-holds c = (refl, omega arith)
+loop-holds c = let s = c .before .before in (bytes-start _ (s .args .from .now) _ (omega (arith, s .pre)), refl, omega arith)
 
 mul-wide : tie.Need-mul-wide Inv-loop μ-loop
 mul-wide c = search needs
@@ -25,15 +27,14 @@ shared-slice-read-wide c = search needs
 wide-requires : tie.Need-wide-requires Inv-loop μ-loop
 wide-requires c κs = search needs
 
-add-told : tie.Need-add-told Inv-loop μ-loop
-add-told c = search needs
+add-out : tie.Need-add-out Inv-loop μ-loop
+add-out c = search needs
 
-mul-told : tie.Need-mul-told Inv-loop μ-loop
-mul-told c = search needs
+mul-out : tie.Need-mul-out Inv-loop μ-loop
+mul-out c = search needs
 
-slice-write-told : tie.Need-slice-write-told Inv-loop μ-loop
-slice-write-told c =
-    let l = c .before .before .before in omega (arith, l .before .before .before .pre, l .loop .inv .0)
+slice-write-out : tie.Need-slice-write-out Inv-loop μ-loop
+slice-write-out c = search needs
 
 add-i : tie.Need-add-i Inv-loop μ-loop
 add-i c = search needs
@@ -42,13 +43,20 @@ loop-less : tie.Need-loop-less Inv-loop μ-loop
 loop-less c = search needs
 
 loop-again : tie.Need-loop-again Inv-loop μ-loop
-loop-again c = (simp length-set (c .before .before .before .loop .inv .0), omega arith)
+loop-again c =
+    let l = c .before .before .before in
+    let s = l .before .before .before in
+    let turn = bytes-turn (s .args .from .now) (l .loop .i) (l .loop .inv .0) (omega arith) (omega (arith, s .pre)) in
+    (rw (c .wide .ensures) turn, simp length-set (omega arith), omega arith)
+
+add-result : tie.Need-add-result Inv-loop μ-loop
+add-result c = search needs
 
 same-length : tie.Need-same-length Inv-loop μ-loop
-same-length c = c .before .loop .inv .0
+same-length c = search needs
 
 returns : tie.Need-returns Inv-loop μ-loop
-returns c = search needs
+returns c = bytes-end _ _ (c .before .loop .inv .0) (c .loop-test .left)
 
 pub put-entries-spec : {M : Type 1} → statement M
 put-entries-spec =
@@ -60,11 +68,12 @@ put-entries-spec =
     mul-wide
     shared-slice-read-wide
     wide-requires
-    add-told
-    mul-told
-    slice-write-told
+    add-out
+    mul-out
+    slice-write-out
     add-i
     loop-less
     loop-again
+    add-result
     same-length
     returns)

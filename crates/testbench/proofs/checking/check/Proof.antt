@@ -6,6 +6,8 @@ use lib.Seq.{length-take-le}
 use denote.Ref.{now}
 use Rattle.benchtop.specs.Parts.{Parts}
 use Rattle.benchtop.proofs.Problems.{PartsAt, parts-at}
+use Rattle.benchtop.proofs.Replies.{Held, held, no-problem, not-fair}
+use Rattle.testbench.proofs.Replies.{ok-replied, refused-replied}
 use Rattle.testbench.proofs.checking.check.Statement.{statement}
 use Rattle.testbench.proofs.checking.check.Tie as tie
 
@@ -15,6 +17,16 @@ parts : (c : tie.After-known-told)
     let s = p .before .before .before .before .before .before in
     PartsAt (now (s .args .numbers)) 1 (p .problem-of .last .1 .1 .0) (c .before .end .given .0 .0) (c .before .end .given .0 .1 .0)
 parts c = parts-at _ _ _ _ _ _ (subst (Parts _ _ _ _) (c .before .end .given .1) (c .before .before .before .before .problem-of .ensures))
+
+-- the problem that they are
+holds : (c : tie.After-known-told)
+    → let p = c .before .before .before .before in
+    let s = p .before .before .before .before .before .before in
+    Held (now (s .args .numbers)) 1 (p .problem-of .last .1 .1 .0) (c .before .end .given .0 .0) (c .before .end .given .0 .1 .0)
+holds c =
+    let p = c .before .before .before .before in
+    let r = p .before .before in
+    held (r .rules .result) (sym (r .rules .ensures)) (c .before .end .given .1) (p .problem-of .ensures)
 
 rules-requires : tie.Need-rules-requires
 rules-requires c κs = search needs
@@ -32,13 +44,16 @@ enum-told : tie.Need-enum-told
 enum-told c = search needs
 
 returns : tie.Need-returns
-returns c = search needs
+returns c =
+    let p = c .before .before .before in
+    let r = p .before .before in
+    no-problem (r .rules .result) (p .problem-of .last .1 .1 .0) (sym (r .rules .ensures)) (c .enum-told .given .1) (p .problem-of .ensures)
 
 shared-slice-read-limit : tie.Need-shared-slice-read-limit
 shared-slice-read-limit c = omega (arith, parts (c .before) .whole)
 
 returns-2 : tie.Need-returns-2
-returns-2 c = search needs
+returns-2 c = not-fair (λ f. omega (arith, f, c .if1 .taken))
 
 sub-check : tie.Need-sub-check
 sub-check c = parts (c .before .before) .words
@@ -89,13 +104,23 @@ same-length : tie.Need-same-length
 same-length c = search needs
 
 returns-3 : tie.Need-returns-3
-returns-3 c = search needs
+returns-3 c =
+    let w = c .before .before in
+    let e = w .before .before .before .before in
+    let k = e .before .before in
+    let i = k .before .before .before in
+    ok-replied (holds (i .before .before)) (i .if1 .left) (k .check .ensures) (e .enum-told2 .given .1) (w .tell .ensures .0)
 
 same-length-2 : tie.Need-same-length-2
 same-length-2 c = search needs
 
 returns-4 : tie.Need-returns-4
-returns-4 c = search needs
+returns-4 c =
+    let w = c .before .before in
+    let e = w .before .before .before .before .before in
+    let k = e .before .before in
+    let i = k .before .before .before in
+    refused-replied (holds (i .before .before)) (i .if1 .left) (k .check .ensures) (e .number .given .1) (w .tell2 .ensures .0)
 
 pub check-spec : {M : Type 1} → statement M
 check-spec =

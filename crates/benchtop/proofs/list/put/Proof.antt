@@ -1,4 +1,4 @@
--- `filebench::list::put` meets its contract. Assumes nothing.
+-- `benchtop::list::put` meets its contract. Assumes nothing.
 use mathlib.Core.Path.{_≡_, refl}
 use Prim.Native.Nat.{_+_, _-_, _≤_}
 use native.Mathlib.Omega.{arith}
@@ -6,8 +6,8 @@ use lib.ListN.{length, take, length-set}
 use Rattle.lines.specs.Putting.{Appended}
 use Rattle.lines.proofs.Puts.{bytes-start, bytes-turn, bytes-end}
 use borrow.Author.Needs.{needs}
-use Rattle.filebench.proofs.list.put.Statement.{statement}
-use Rattle.filebench.proofs.list.put.Tie as tie
+use Rattle.benchtop.proofs.list.put.Statement.{statement}
+use Rattle.benchtop.proofs.list.put.Tie as tie
 
 abbrev Inv-loop : tie.InvT-loop
 Inv-loop out₀ at from i₀ out i = Appended out₀ at (take i from) out (at + i) × (length out ≡ length out₀) × (i ≤ length from)

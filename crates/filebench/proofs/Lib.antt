@@ -1,0 +1,3 @@
+pub mod Pairing
+pub mod Writing
+pub mod Reading

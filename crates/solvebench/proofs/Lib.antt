@@ -1,0 +1,4 @@
+pub mod Lists
+pub mod Solves
+pub mod Causes
+pub mod Explains

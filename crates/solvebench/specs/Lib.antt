@@ -1,0 +1,3 @@
+pub mod ListTold
+pub mod Says
+pub mod Replies
