@@ -91,8 +91,8 @@ def demand(name):
 def places():
     """Where each number stands in the crates: its name, a file or several, and the text around it."""
     for name in ANSWERS:
-        yield name, "crates/sievecrest/src/*.rt", constant(name)
-        yield name, "crates/sievecrest/specs/*.antt", definition(name.replace("_", "-"))
+        yield name, "crates/packing/src/lib.rt", constant(name)
+        yield name, "crates/packing/specs/Numbers.antt", definition(name.replace("_", "-"))
     for name in "SIZE WIDTH TABLE KIND FIELD FIT LIMIT".split():
         yield name, "crates/checker/src/lib.rt", constant(name)
         yield name, "crates/checker/specs/Demands.antt", demand(name)
@@ -144,7 +144,7 @@ def bit_of(tally, name, factor):
 
 def shifts(tally):
     """The bits at which count, entries or words, and rules begin."""
-    path = "crates/sievecrest/specs/Packed.antt"
+    path = "crates/packing/specs/Packed.antt"
     count = number_at(tally, "count", path, r"^packed p = p \.number \+ (\d+) \* p \.count \+ \d+ \* p \.more$")
     more = number_at(tally, "more", path, r"^packed p = p \.number \+ \d+ \* p \.count \+ (\d+) \* p \.more$")
     rules = more * number_at(tally, "rules", path, r"\(x \.words \+ (\d+) \* x \.rules\)$")

@@ -17,8 +17,8 @@ use Rattle.blocks.specs.Promise.{Reads, Writes}
 use Rattle.blocks.proofs.Promise.{read-once, write-once}
 use Rattle.report.specs.Promise.{Advises}
 use Rattle.report.proofs.Once.{advise-once}
-use Rattle.sievecrest.specs.Packed.{Returns, checked, tightened, solved, explained, caused, read, written, advised}
-use Rattle.sievecrest.proofs.Apart.{returned-same}
+use Rattle.packing.specs.Packed.{Returns, checked, tightened, solved, explained, caused, read, written, advised}
+use Rattle.packing.proofs.Apart.{returned-same}
 
 pub check-one : (limit : ℕ) (ws bs : List ℕ) {r s : ℕ} → Returns (λ x. x ≡ refusalWith limit ws bs) checked r
     → Returns (λ x. x ≡ refusalWith limit ws bs) checked s → r ≡ s

@@ -45,7 +45,7 @@ use Rattle.report.specs.declared.Advised.{Advised}
 use Rattle.report.specs.Printed.{most}
 use Rattle.report.specs.Promise as Report
 use Rattle.report.proofs.Advising.{lines-within}
-use Rattle.sievecrest.specs.Packed.{parts, Within, checked, tightened, solved, explained, caused, read, written, advised}
+use Rattle.packing.specs.Packed.{parts, Within, checked, tightened, solved, explained, caused, read, written, advised}
 use Rattle.sievecrest.proofs.Refusals.{Small, check-refused, tighten-refused, solve-refused, explain-refused}
 use Rattle.sievecrest.proofs.Refusals.{cause-refused, read-refused, write-refused, advise-refused}
 

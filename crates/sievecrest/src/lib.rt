@@ -1,7 +1,5 @@
 // The calls for C and Rust. A slice passes as a pointer and its length; an answer comes back as one number, so that none travels through lent memory.
 // Each call promises what the library's own call promises, and that its number is that answer's.
-mod packing;
-
 use packing::of_advised;
 use packing::of_caused;
 use packing::of_checked;
@@ -21,7 +19,7 @@ ghost use Rattle.blocks.specs.Edition.{edition1};
 ghost use Rattle.blocks.specs.Promise.{Reads, Writes};
 ghost use Rattle.report.specs.Printed.{most};
 ghost use Rattle.report.specs.Promise.{Advises};
-ghost use Rattle.sievecrest.specs.Packed.{Returns, checked, tightened, solved, explained, caused, read, written, advised};
+ghost use Rattle.packing.specs.Packed.{Returns, checked, tightened, solved, explained, caused, read, written, advised};
 
 #[no_mangle]
 pub extern "C" fn sievecrest_check(words: &[u64], rules: &[u8], limit: u32) -> u64
