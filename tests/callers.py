@@ -318,8 +318,12 @@ def from_rust(tally, folder, program):
     if not os.access(advise, os.X_OK):
         tally.same(f"{advise} is there", False, True)
         return
-    for name, data in files():
-        tally.same(f"rust/examples/advise.rs on {name}", run([advise], input=data)[:2], run([program], input=data)[:2])
+    for number, (name, data) in enumerate(files()):
+        got, wanted = run([advise], input=data)[:2], run([program], input=data)[:2]
+        tally.same(f"rust/examples/advise.rs on {name}, kept as {BUILT}/{number}.blocks", got, wanted)
+        if got != wanted:
+            with open(f"{BUILT}/{number}.blocks", "wb") as file:
+                file.write(data)
 
 
 def main():

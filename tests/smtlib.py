@@ -4,10 +4,11 @@
 tests/smtlib.py PROGRAM. The defining equations are those of the theory FixedSizeBitVectors, of the logic QF_BV (bvxor, bvule) and of the Core theory (ite,
 distinct), over lists of bits, lowest first; every choice of operands at a small width is a board with the result open. A law is a board in which its two sides
 differ: it must be unsat. The script is the swap without a temporary variable of SMT-LIB's example page, where `(check-sat)` answers unsat; its negated
-conjunction is cut into two boards, and x - y = z is written x = z + y.
+conjunction is cut into two boards, and x - y = z is written x = z + y. A board that fails is kept in target/smtlib.
 """
 import importlib.util
 import itertools
+import os
 import subprocess
 import sys
 
@@ -58,9 +59,23 @@ LAWS = {
 WIDE = {"w": 6, "s": 1}
 
 
+KEPT = "target/smtlib"
+# the text of the board asked about last
+ASKED = []
+
+
+def keep(number):
+    """Puts the last board aside; the command that shows the failure."""
+    os.makedirs(KEPT, exist_ok=True)
+    with open(f"{KEPT}/{number}.board", "w", encoding="utf-8") as file:
+        file.writelines(ASKED)
+    return f"./advise {KEPT}/{number}.board"
+
+
 def advised(program, lines):
     """The lines that the program prints for a board's text."""
-    data = BOARD.blocks(*BOARD.parse("\n".join(["limit 100000"] + lines) + "\n"))
+    ASKED[:] = ["\n".join(["limit 100000"] + lines) + "\n"]
+    data = BOARD.blocks(*BOARD.parse(ASKED[0]))
     return subprocess.run([program], input=data, stdout=subprocess.PIPE, check=True, timeout=60).stdout.decode("ascii", "replace").splitlines()
 
 
@@ -131,7 +146,7 @@ def main():
             passed += 1
         else:
             failed += 1
-            print(f"{name}: {told}, and SMT-LIB says {wanted}")
+            print(f"{name}: {keep(failed)} prints {told}, and SMT-LIB says {wanted}")
     print(f"{passed} passed, {failed} failed")
     return 1 if failed or not passed else 0
 
