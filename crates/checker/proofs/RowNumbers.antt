@@ -9,12 +9,12 @@ use native.Mathlib.Omega.{arith}
 use lib.Dec.{eqb, leb}
 use borrow.Author.Tests.{leb-true, leb-false, eqb-true, eqb-false, le-leb, lt-leb, eq-eqb, ne-eqb}
 use Rattle.words.specs.Bits.{one}
-use Rattle.rules.specs.Kinds.{R, A, B, S, Kind, kindOf}
+use Rattle.rules.specs.Kinds.{R, A, B, S, widthOf, Kind, kindOf}
 use Rattle.rules.specs.Rows.{Class, equal-r-a, equal-r-a-b, chosen, part, joined, shifted, equal-a-b, class}
 use Rattle.rules.specs.Tight.{Rule, word}
-use Rattle.checker.specs.declared.Widths.{Widths}
+use Rattle.rules.specs.declared.Widths.{Widths}
 use Rattle.checker.specs.Lent.{widthAt}
-use Rattle.checker.specs.Rows.{classOf, classNumber, usesField, entry, placed}
+use Rattle.checker.specs.Rows.{classOf, classNumber, usesField, entry}
 use Rattle.checker.specs.Tests.{fitsAs, isFitting}
 
 pub part-test : (k r a : ℕ) → r ≤ a → leb k (a - r) ≡ leb (k + r) a
@@ -70,11 +70,11 @@ entry-used κ (suc c) l = one-test (usesField κ (suc c))
 
 words-placed : (ws : List ℕ) (ρ : Rule) (w : Widths)
     → w ≡ record { r = widthAt ws (ρ .r); a = widthAt ws (ρ .a); b = widthAt ws (ρ .b); s = widthAt ws (ρ .s) }
-    → placed w ≡ (λ p. widthAt ws (word ρ p))
+    → widthOf w ≡ (λ p. widthAt ws (word ρ p))
 words-placed ws ρ w e = rw e (fun-ext (λ p. elim p [ R ↦ refl | A ↦ refl | B ↦ refl | S ↦ refl ]))
 
 pub fitting : (ws : List ℕ) (ρ : Rule) (κ x k : ℕ) (w : Widths) → κ ≡ ρ .kind → x ≡ entry (kindOf κ) 0 → k ≡ ρ .k
     → w ≡ record { r = widthAt ws (ρ .r); a = widthAt ws (ρ .a); b = widthAt ws (ρ .b); s = widthAt ws (ρ .s) }
-    → fitsAs (classOf x) (placed w) k ≡ isFitting ws ρ
+    → fitsAs (classOf x) (widthOf w) k ≡ isFitting ws ρ
 unfolding isFitting
 fitting ws ρ κ x k w eκ ex ek ew = rw (words-placed ws ρ w ew, ex, ek, eκ, class-of (class (kindOf (ρ .kind))))

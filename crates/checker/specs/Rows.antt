@@ -5,10 +5,9 @@ use mathlib.Core.List.{[], _∷_}
 use Prim.Native.Nat.{ℕ, zero, suc}
 use lib.ListN.{getD}
 use Rattle.words.specs.Bits.{one}
-use Rattle.rules.specs.Kinds.{Place, R, A, B, S, Kind}
+use Rattle.rules.specs.Kinds.{R, A, B, S, Kind}
 use Rattle.rules.specs.Rows.{Class, equal-r-a, equal-r-a-b, chosen, part, joined, shifted, equal-a-b, class, uses}
 use Rattle.rules.specs.ProperProblem.{usesK}
-use Rattle.checker.specs.declared.Widths.{Widths}
 
 -- classes by their numbers, from 0
 unfoldable pub classOf : ℕ → Class
@@ -36,10 +35,3 @@ usesField κ (suc (suc (suc (suc (suc c))))) = usesK κ
 abbrev pub entry : Kind → ℕ → ℕ
 entry κ zero = classNumber (class κ)
 entry κ (suc c) = one (usesField κ (suc c))
-
--- the widths of a rule's places
-abbrev pub placed : Widths → Place → ℕ
-placed w R = w .r
-placed w A = w .a
-placed w B = w .b
-placed w S = w .s

@@ -41,14 +41,6 @@ pub enum Checked {
     Refused(u64, u64),
 }
 
-// The widths of a rule's places.
-pub struct Widths {
-    pub r: u64,
-    pub a: u64,
-    pub b: u64,
-    pub s: u64,
-}
-
 // Whether x is 1 to m.
 fn one_to(m: u64, x: u64) -> bool
     ensures { λ r. ⌜ r ≡ oneTo m x ⌝ }

@@ -1,12 +1,12 @@
 // The fixed table of fourteen rows, and what it says of a kind.
-use crate::Widths;
+use rules::Widths;
 ghost use mathlib.Core.Path.{_≡_};
 ghost use Prim.Native.Nat.{_+_, _<_};
 ghost use lib.Dec.{leb, eqb};
-ghost use Rattle.rules.specs.Kinds.{kindOf};
+ghost use Rattle.rules.specs.Kinds.{widthOf, kindOf};
 ghost use Rattle.rules.specs.ProperProblem.{KindNumber};
 ghost use Rattle.checker.specs.Lent.{fields};
-ghost use Rattle.checker.specs.Rows.{classOf, usesField, entry, placed};
+ghost use Rattle.checker.specs.Rows.{classOf, usesField, entry};
 ghost use Rattle.checker.specs.Tests.{fitsAs};
 
 // The number of the last kind.
@@ -64,7 +64,7 @@ fn is_sum(r: u64, a: u64, b: u64) -> bool
 
 // Whether widths and k are as a class asks.
 pub fn fits(class: u8, w: Widths, k: u64) -> bool
-    ensures { λ x. ⌜ x ≡ fitsAs (classOf class) (placed w) k ⌝ }
+    ensures { λ x. ⌜ x ≡ fitsAs (classOf class) (widthOf w) k ⌝ }
 {
     match class {
         // r and a equal

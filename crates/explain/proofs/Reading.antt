@@ -12,7 +12,7 @@ use Rattle.rules.specs.Tight.{rule, shape, span}
 use Rattle.rules.specs.ProperProblem.{KindNumber, ProperRule}
 use Rattle.rules.proofs.ProperRules.{rule-legal}
 use Rattle.checker.specs.declared.Checked.the-variants.{Refused}
-use Rattle.checker.specs.declared.Widths.{Widths}
+use Rattle.rules.specs.declared.Widths.{Widths}
 use Rattle.checker.specs.Lent.{fields, widthAt, widthsOf, tableOf, ruleCount, ruleAt, rulesOf}
 use Rattle.checker.proofs.Series.{length-series, width-at, lo-at, hi-at, rule-at}
 use Rattle.hull.specs.declared.Bounds.{Bounds}
@@ -30,7 +30,7 @@ use Rattle.explain.specs.Promise.{Explanation, Taken, Judged, not-asked,
 pub question-read : (ws bs : List ℕ) (n p j : ℕ) (x : Widths) (κ k : ℕ)
     → x ≡ record { r = widthAt ws (ruleAt bs n .r); a = widthAt ws (ruleAt bs n .a); b = widthAt ws (ruleAt bs n .b); s = widthAt ws (ruleAt bs n .s) }
     → κ ≡ getD bs (fields * n + 0) 0 → k ≡ getD bs (fields * n + 5) 0
-    → record { kind = κ; k = k; w = record { r = x .r; a = x .a; b = x .b; s = x .s }; place = p; bit = j } ≡ questionIn ws bs n p j
+    → record { kind = κ; k = k; w = x; place = p; bit = j } ≡ questionIn ws bs n p j
 unfolding questionIn widthsIn
 question-read ws bs n p j x κ k ex eκ ek =
     let e : κ ≡ at bs (fields * n) = eκ ∙ ap (λ (m : ℕ). at bs m) (add-zero (fields * n)) in

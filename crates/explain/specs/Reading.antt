@@ -4,7 +4,7 @@ use mathlib.Core.List.{List}
 use Prim.Native.Nat.{ℕ}
 use Rattle.checker.specs.Lent.{widthAt, loAt, hiAt, ruleAt}
 use Rattle.hull.specs.declared.Bounds.{Bounds}
-use Rattle.hull.specs.declared.Widths.{Widths}
+use Rattle.rules.specs.declared.Widths.{Widths}
 use Rattle.explain.specs.declared.Question.{Question}
 
 unfoldable pub boundsIn : List ℕ → List ℕ → ℕ → Bounds

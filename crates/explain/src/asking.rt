@@ -48,13 +48,7 @@ pub fn question(words: &[u64], rules: &[u8], n: usize, place: u64, bit: u64) -> 
     requires { ⌜ fields * n + 5 < length (now rules) ⌝ }
     ensures { λ q. ⌜ q ≡ questionIn (now (words .entry)) (now (rules .entry)) n place bit ⌝ }
 {
-    let x = checker::rule::widths_of(words, rules, n);
-    let w = hull::Widths {
-        r: x.r,
-        a: x.a,
-        b: x.b,
-        s: x.s,
-    };
+    let w = checker::rule::widths_of(words, rules, n);
     Question {
         kind: checker::rule::field(rules, n, 0),
         k: checker::rule::field(rules, n, 5),

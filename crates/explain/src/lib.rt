@@ -15,7 +15,7 @@ ghost use Rattle.explain.specs.Promise.{entries, Explanation, Taken, Jud
 struct Question {
     kind: u64,
     k: u64,
-    w: hull::Widths,
+    w: rules::Widths,
     place: u64,
     bit: u64,
 }

@@ -2,7 +2,8 @@
 ghost use mathlib.Core.Path.{_≡_};
 ghost use Prim.Native.Nat.{_<_};
 ghost use Rattle.words.specs.Bits.{bit};
-ghost use Rattle.hull.specs.Narrowing.{widthOf, loOf, hiOf, spanOf};
+ghost use Rattle.rules.specs.Kinds.{widthOf};
+ghost use Rattle.hull.specs.Narrowing.{loOf, hiOf, spanOf};
 ghost use Rattle.reasons.specs.Reason.{cleared, filled, opened};
 ghost use Rattle.explain.specs.Places.{placeOf};
 
@@ -15,7 +16,7 @@ pub fn bit_of(n: u64, b: u64) -> u64
 }
 
 // The width at a place.
-pub fn width(w: hull::Widths, p: u64) -> u64
+pub fn width(w: rules::Widths, p: u64) -> u64
     ensures { λ r. ⌜ r ≡ widthOf w (placeOf p) ⌝ }
 {
     match p {

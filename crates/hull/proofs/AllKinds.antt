@@ -5,14 +5,14 @@ use Prim.Native.Nat.{ℕ, zero, suc, _+_, _-_, _<_}
 use native.Mathlib.Omega.{arith}
 use lib.Dec.{T}
 use Rattle.words.specs.Word.{Width}
-use Rattle.rules.specs.Kinds.{R, A, B, COPY, NOT, AND, OR, XOR, ADD, ITE, SLICE, JOIN, SHL, SHR, ULE, ULT, NE, Kind, op, rel, kindOf}
+use Rattle.rules.specs.Kinds.{R, A, B, COPY, NOT, AND, OR, XOR, ADD, ITE, SLICE, JOIN, SHL, SHR, ULE, ULT, NE, Kind, op, rel, kindOf, widthOf}
 use Rattle.rules.specs.Rows.{uses}
 use Rattle.rules.specs.Fits.{Legal}
-use Rattle.hull.specs.declared.Widths.{Widths}
+use Rattle.rules.specs.declared.Widths.{Widths}
 use Rattle.hull.specs.declared.Bounds.{Bounds}
 use Rattle.hull.specs.declared.Narrowed.{Narrowed}
 use Rattle.hull.specs.ByColumns.{columnsOf}
-use Rattle.hull.specs.Narrowing.{shaped, shapeOf, spanOf, widthOf, narrowedAs, Narrows}
+use Rattle.hull.specs.Narrowing.{shaped, shapeOf, spanOf, narrowedAs, Narrows}
 use Rattle.hull.proofs.Table.{below}
 use Rattle.hull.proofs.Slices.{copy-narrows, slice-kind-narrows, shr-narrows}
 use Rattle.hull.proofs.Inverts.{not-narrows}

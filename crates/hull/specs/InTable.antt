@@ -4,7 +4,7 @@ use mathlib.Core.List.{List}
 use Prim.Native.Nat.{ℕ}
 use Rattle.words.specs.Table.{Table, at}
 use Rattle.rules.specs.Tight.{Rule}
-use Rattle.hull.specs.declared.Widths.{Widths}
+use Rattle.rules.specs.declared.Widths.{Widths}
 use Rattle.hull.specs.declared.Bounds.{Bounds}
 
 abbrev pub widthsAt : List ℕ → Rule → Widths

@@ -3,7 +3,7 @@
 use mathlib.Core.Path.{_≡_}
 use Prim.Native.Nat.{ℕ}
 use lib.Bits.{bitXor}
-use Rattle.hull.specs.declared.Widths.{Widths}
+use Rattle.rules.specs.declared.Widths.{Widths}
 use Rattle.hull.specs.declared.Bounds.{Bounds}
 use Rattle.hull.specs.declared.Narrowed.{Narrowed}
 use Rattle.hull.specs.Narrowing.{shapeOf, spanOf, Narrows}

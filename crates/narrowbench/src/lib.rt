@@ -1,7 +1,7 @@
 // ADD on plain numbers, through `narrow`, for measuring from C (bench/narrow). It has a `requires`, which the benchmark keeps.
 use hull::Bounds;
-use hull::Widths;
 use hull::narrow;
+use rules::Widths;
 ghost use Rattle.rules.specs.Fits.{Legal};
 ghost use Rattle.hull.specs.Narrowing.{shapeOf, spanOf};
 ghost use Rattle.narrowbench.specs.Measure.{level, plain, Measured};

@@ -8,7 +8,7 @@ use native.Mathlib.Omega.{arith}
 use lib.Dec.{T}
 use lib.ListN.{length}
 use Rattle.words.specs.Table.{at}
-use Rattle.rules.specs.Kinds.{Place, R, A, B, S, Kind, op, rel, kindOf}
+use Rattle.rules.specs.Kinds.{Place, R, A, B, S, Kind, op, rel, kindOf, widthOf}
 use Rattle.rules.specs.Rows.{uses}
 use Rattle.rules.specs.Fits.{Legal}
 use Rattle.rules.specs.Tight.{Rule, word, shape, span}
@@ -17,8 +17,8 @@ use Rattle.rules.proofs.ProperRules.{rule-legal}
 use Rattle.rules.proofs.Propers.{proper-inside}
 use Rattle.hull.specs.declared.Bounds.{Bounds}
 use Rattle.hull.specs.declared.Narrowed.{Narrowed}
-use Rattle.hull.specs.declared.Widths.{Widths}
-use Rattle.hull.specs.Narrowing.{widthOf, loOf, hiOf, shapeOf, spanOf, Narrows}
+use Rattle.rules.specs.declared.Widths.{Widths}
+use Rattle.hull.specs.Narrowing.{loOf, hiOf, shapeOf, spanOf, Narrows}
 use Rattle.checker.specs.Lent.{fields, wordCount, widthAt, widthsOf, ruleCount, ruleAt}
 use Rattle.checker.proofs.Series.{length-series, width-at, rule-at}
 use Rattle.tighten.specs.Memory.{tableIn}

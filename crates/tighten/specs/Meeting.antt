@@ -9,7 +9,7 @@ use lib.ListN.{set}
 use Rattle.words.specs.Bits.{under}
 use Rattle.words.specs.Table.{at}
 use Rattle.hull.specs.declared.Bounds.{Bounds}
-use Rattle.hull.specs.declared.Widths.{Widths}
+use Rattle.rules.specs.declared.Widths.{Widths}
 use Rattle.checker.specs.Lent.{stride, fields}
 use Rattle.tighten.specs.declared.Met.{Met}
 use Rattle.tighten.specs.declared.Numbers.{Numbers}

@@ -52,7 +52,7 @@ fn bounds_at(work: &[u64], x: Numbers) -> hull::Bounds
 }
 
 // The widths of these words.
-fn widths_at(words: &[u64], x: Numbers) -> hull::Widths
+fn widths_at(words: &[u64], x: Numbers) -> rules::Widths
     requires { ⌜ (stride * x .r < length (now words)) × (stride * x .a < length (now words)) × (stride * x .b < length (now words))
         × (stride * x .s < length (now words)) × (x .r < 32) × (x .a < 32) × (x .b < 32) × (x .s < 32) ⌝ }
     ensures { λ r. ⌜ r ≡ widthsAt (now (words .entry)) x ⌝ }
@@ -61,7 +61,7 @@ fn widths_at(words: &[u64], x: Numbers) -> hull::Widths
     let a = checker::STRIDE * x.a;
     let b = checker::STRIDE * x.b;
     let s = checker::STRIDE * x.s;
-    hull::Widths {
+    rules::Widths {
         r: words[r],
         a: words[a],
         b: words[b],
