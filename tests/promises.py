@@ -12,20 +12,31 @@ import sys
 PAGE = "docs/PROMISES.md"
 
 
+def constructors(lines):
+    """The names that stand as constructors in the public data declarations of a file."""
+    inside = None
+    for line in lines:
+        indent = len(line) - len(line.lstrip())
+        if inside is not None and line.strip() and indent <= inside:
+            inside = None
+        if inside is not None:
+            names = re.match(r"\s*([^\s:({][^:({]*) :", line)
+            yield from names.group(1).split() if names else ()
+        if re.match(r"\s*pub data ", line):
+            inside = indent
+
+
 def declared(path):
-    """The names that a file declares: antt declarations, constructors and records, and functions of Rattle."""
+    """The public names that a file declares: antt declarations, their constructors and fields, and functions of Rattle; or a folder's edits."""
     if path.endswith("/must-fail"):
         return {os.path.basename(edit)[: -len(".edit")] for edit in glob.glob(path + "/*.edit")}
-    names = set()
-    for line in open(path, encoding="utf-8"):
-        if path.endswith(".rt"):
-            match = re.match(r'\s*pub (?:extern "C" )?fn (\w+)', line)
-            names.update(match.groups() if match else ())
-            continue
-        match = re.match(r"\s*(?:(?:unfoldable|abbrev|pub)\s+)*(?:(?:data|record)\s+)?([^\s:({]+)[^:]*:", line)
-        if match:
-            names.add(match.group(1))
-    return names
+    with open(path, encoding="utf-8") as file:
+        lines = file.read().split("\n")
+    if path.endswith(".rt"):
+        found = (re.match(r'\s*pub (?:extern "C" )?fn (\w+)', line) for line in lines)
+    else:
+        found = (re.match(r"\s*(?:(?:unfoldable|abbrev)\s+)?pub\s+(?:(?:data|record)\s+)?([^\s:({]+)[^:]*:", line) for line in lines)
+    return {match.group(1) for match in found if match} | set(constructors(lines))
 
 
 def main():
