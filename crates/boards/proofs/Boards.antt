@@ -18,7 +18,7 @@ use Rattle.boards.proofs.Sound.{legalb}
 use Rattle.boards.proofs.Computed.{allSound, computed, computedAll, all-follow}
 
 boards-sound : T (allSound boards)
-unfolding legalb kindOf
+unfolding legalb kindOf tightened
 boards-sound = tt
 
 -- the answers computed are those of the table

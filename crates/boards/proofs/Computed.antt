@@ -1,7 +1,7 @@
 -- The answer of a row, computed from the definitions; a row with its computed answer follows from them.
 -- Assumes nothing.
 use mathlib.Core.Path.{refl}
-use mathlib.Core.Bool.{Bool, true, _&&_}
+use mathlib.Core.Bool.{Bool, true, false, _&&_}
 use mathlib.Core.List.{List, [], _∷_}
 use Prim.Native.Nat.{ℕ}
 use lib.Dec.{T}
@@ -13,7 +13,6 @@ use Rattle.rules.specs.Proper.{Proper}
 use Rattle.rules.specs.Tightening.{Widest, Tightened, TIGHT, CONFLICT, Tightens}
 use Rattle.rules.proofs.Lists.{All}
 use Rattle.rules.proofs.FitTest.{both}
-use Rattle.rules.proofs.OneWidest.{one-widest, not-both}
 use Rattle.rules.proofs.Steps.{tightened}
 use Rattle.rules.proofs.Widest.{tightened-right}
 use Rattle.search.specs.Ceiling.{Ceiling}
@@ -24,10 +23,14 @@ use Rattle.causes.proofs.Named.{named, named-right}
 use Rattle.boards.specs.Row.{Problem, table, bytesOf, Row, solve, ceiling, explain, cause, file, Follows}
 use Rattle.boards.proofs.Sound.{properb, proper-sound, legalb, legal-sound}
 
--- the row's problem is proper, and its question about a legal rule
+abbrev isTight : Tightened → Bool
+isTight (TIGHT u) = true
+isTight CONFLICT = false
+
+-- the row's problem is proper, its question about a legal rule, and a ceiling is asked for where tightening does not conflict
 abbrev pub soundb : Row → Bool
 soundb (solve p limit o) = properb (p .widths) (p .lo) (p .hi)
-soundb (ceiling p c) = properb (p .widths) (p .lo) (p .hi)
+soundb (ceiling p c) = properb (p .widths) (p .lo) (p .hi) && isTight (tightened (p .widths) (p .rules) (table p))
 soundb (explain p n q j x out) =
     properb (p .widths) (p .lo) (p .hi) && (legalb (p .widths) (rule (p .rules) n) && uses (kindOf (rule (p .rules) n .kind)) q)
 soundb (cause p limit x) = properb (p .widths) (p .lo) (p .hi)
@@ -43,7 +46,8 @@ ceilingIn p t CONFLICT = 0
 
 unfoldable pub computed : (r : Row) → T (soundb r) → Row
 computed (solve p limit o) t = solve p limit (solved (p .widths) (p .rules) limit (table p))
-computed (ceiling p c) t = ceiling p (ceilingIn p t (tightened (p .widths) (p .rules) (table p)))
+computed (ceiling p c) s =
+    ceiling p (ceilingIn p (both (properb (p .widths) (p .lo) (p .hi)) _ s .0) (tightened (p .widths) (p .rules) (table p)))
 computed (explain p n q j x out) t =
     let e = explained (shape (p .widths) (rule (p .rules) n)) (span (table p) (rule (p .rules) n)) q j in
     explain p n q j (e .0) (e .1)
@@ -53,13 +57,14 @@ computed (file p limit f) t = file p limit (bytesOf p limit)
 row-follows : (r : Row) (s : T (soundb r)) → Follows (computed r s)
 unfolding computed
 row-follows (solve p limit o) t = solved-right (p .widths) (p .rules) (table p) (proper p t) limit
-row-follows (ceiling p c) t = go (tightened (p .widths) (p .rules) (table p)) (tightened-right (p .widths) (p .rules) (table p) (proper p t))
+row-follows (ceiling p c) s =
+    let (t, tight) = both (properb (p .widths) (p .lo) (p .hi)) _ s in
+    go t (tightened (p .widths) (p .rules) (table p)) (tightened-right (p .widths) (p .rules) (table p) (proper p t)) tight
   where
-    go : (x : Tightened) → Tightens (Tight (p .widths) (p .rules)) (table p) x
-        → (u : Table) → Widest (Tight (p .widths) (p .rules)) (table p) u → Ceiling (p .rules) (table p) u (ceilingIn p t x)
-    go (TIGHT u) w v y =
-        rw (one-widest (Tight (p .widths) (p .rules)) (table p) v u y w) (some-ceiling (p .widths) (p .rules) (table p) (proper p t) u .1)
-    go CONFLICT c v y = absurd (not-both (Tight (p .widths) (p .rules)) y c)
+    go : (t : T (properb (p .widths) (p .lo) (p .hi))) (x : Tightened) → Tightens (Tight (p .widths) (p .rules)) (table p) x → T (isTight x)
+        → (u : Table) × Widest (Tight (p .widths) (p .rules)) (table p) u × Ceiling (p .rules) (table p) u (ceilingIn p t x)
+    go t (TIGHT u) w h = (u, w, some-ceiling (p .widths) (p .rules) (table p) (proper p t) u .1)
+    go t CONFLICT w h = absurd h
 row-follows (explain p n q j x out) s =
     let (a, t) = both (properb (p .widths) (p .lo) (p .hi)) _ s in
     let (b, c) = both (legalb (p .widths) (rule (p .rules) n)) _ t in

@@ -2,6 +2,7 @@
 -- Assumes nothing.
 use mathlib.Core.Path.{_≡_, refl, subst}
 use mathlib.Core.List.{List, [], _∷_}
+use lib.Dec.{T}
 use Rattle.rules.proofs.Lists.{All}
 use Rattle.rules.proofs.OwnPlaces.{ne-self}
 use Rattle.search.specs.Search.{found, none}
@@ -10,7 +11,7 @@ use Rattle.search.proofs.TheCeiling.{some-ceiling}
 use Rattle.rules.proofs.Steps.{tightened}
 use Rattle.rules.specs.Tight.{Rule}
 use Rattle.boards.specs.Row.{Problem, Row, solve, ceiling, Follows}
-use Rattle.boards.proofs.Computed.{computed, computedAll, all-follow}
+use Rattle.boards.proofs.Computed.{allSound, computed, computedAll, all-follow}
 
 abbrev word : List Rule → Problem
 word rs = record { widths = 2 ∷ []; lo = 0 ∷ []; hi = 3 ∷ []; rules = rs }
@@ -23,9 +24,13 @@ rises =
     ∷ ceiling (word (ne-self 0 ∷ [])) 3
     ∷ []
 
-rises-computed : computedAll rises tt ≡ rises
+rises-sound : T (allSound rises)
+unfolding tightened
+rises-sound = tt
+
+rises-computed : computedAll rises rises-sound ≡ rises
 unfolding computed solved tightened some-ceiling
 rises-computed = refl
 
 pub count-rises : All Follows rises
-count-rises = subst (All Follows) rises-computed (all-follow rises tt)
+count-rises = subst (All Follows) rises-computed (all-follow rises rises-sound)

@@ -41,7 +41,7 @@ bytesOf p limit = encode edition1 limit (lentWords (p .widths) (p .lo) (p .hi)) 
 pub data Row : Type 0 where
   -- solved with a limit: the answer with its count and settings
   solve : Problem → ℕ → Outcome → Row
-  -- the ceiling
+  -- the ceiling, after a first tightening that does not conflict
   ceiling : Problem → ℕ → Row
   -- a rule by its number, a place and a bit explained: the answer and its reason
   explain : Problem → ℕ → Place → ℕ → Answer → List ℕ → Row
@@ -53,7 +53,7 @@ pub data Row : Type 0 where
 -- what a row says, in the words of the definitions
 abbrev pub Follows : Row → Type 0
 Follows (solve p limit o) = Search (Tight (p .widths) (p .rules)) limit (table p) 0 o
-Follows (ceiling p c) = (u : Table) → Widest (Tight (p .widths) (p .rules)) (table p) u → Ceiling (p .rules) (table p) u c
+Follows (ceiling p c) = (u : Table) × Widest (Tight (p .widths) (p .rules)) (table p) u × Ceiling (p .rules) (table p) u c
 Follows (explain p n q j x out) = Explains (shape (p .widths) (rule (p .rules) n)) (span (table p) (rule (p .rules) n)) q j x out
 Follows (cause p limit x) = Causes (p .widths) (p .rules) limit (table p) x
 Follows (file p limit f) = f ≡ bytesOf p limit
