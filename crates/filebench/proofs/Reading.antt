@@ -22,7 +22,8 @@ use Rattle.benchtop.specs.Replied.{Said, said}
 use Rattle.benchtop.proofs.Problems.{part-all}
 use Rattle.benchtop.proofs.Dirts.{drop-all}
 use Rattle.benchtop.proofs.Replies.{told-fine, told-if, both-tell, said-answered}
-use Rattle.filebench.specs.Says.{problemLine, Beyond, ReadSays, ReadReplied, read-said, not-read}
+use Rattle.filebench.specs.Runs.{zeros, Makes}
+use Rattle.filebench.specs.Says.{problemLine, Beyond, ReadSays, ReadFair, IsFile, ReadReplied, read-said, not-read}
 
 -- what was put in front leaves the rest, and the length
 put-rest : {y : List ℕ} (a xs : List ℕ) (k : ℕ) → All a 7 → y ≡ put a 0 xs → length xs ≡ k → All (drop k y) 7
@@ -83,9 +84,12 @@ problem-told {c} {d} {name} {l} {m} {told} {r} x ws bs u v e p =
 
 -- ---- what is put for a line
 
-pub read-replied : {ns f a b name l m : List ℕ} {r : ℕ} → at ns 0 ≤ 128 → at ns 1 ≤ 2048 → at ns 2 ≤ 4096 → a ≡ dirt (at ns 0) → b ≡ dirt (at ns 1)
-    → at ns 2 ≡ length f → Said (ReadSays f a b) name l m r → ReadReplied ns name l m r × Answered l m r
-read-replied h i j p q e s = (read-said h i j (sym e) (rw (p, q) at s), said-answered s)
+pub read-replied : {ns f g h a b name l m : List ℕ} {r : ℕ} → ReadFair ns → f ≡ zeros (at ns 2) → Makes ns g 3 f → h ≡ g → a ≡ dirt (at ns 0)
+    → b ≡ dirt (at ns 1) → Said (ReadSays h a b) name l m r → ReadReplied ns name l m r × Answered l m r
+read-replied {ns} {f} {g} fair z y e p q s = (read-said fair (subst (Makes ns g 3) z y) (rw (e, p, q) at s), said-answered s)
 
-pub unread : {ns name l : List ℕ} → ReadReplied ns name l l 0 × Answered l l 0
-unread = (not-read refl refl, record { within = omega arith; rest = refl })
+pub unread : {ns name l : List ℕ} → (ReadFair ns → (f : List ℕ) → ¬ IsFile ns f) → ReadReplied ns name l l 0 × Answered l l 0
+unread h = (not-read h refl refl, record { within = omega arith; rest = refl })
+
+pub no-file : {ns f name l : List ℕ} → f ≡ zeros (at ns 2) → ((g : List ℕ) → ¬ Makes ns g 3 f) → ReadReplied ns name l l 0 × Answered l l 0
+no-file {ns} z h = unread (λ fair g y. h g (subst (Makes ns g 3) (sym z) y))

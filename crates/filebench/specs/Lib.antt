@@ -1,3 +1,4 @@
 pub mod Pairs
+pub mod Runs
 pub mod Says
 pub mod Called

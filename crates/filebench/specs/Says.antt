@@ -15,6 +15,7 @@ use Rattle.benchtop.specs.Words.{OK, REFUSED}
 use Rattle.lines.specs.Lists.{All}
 use Rattle.benchtop.specs.Replied.{most-limit, Said, Replied}
 use Rattle.filebench.specs.Pairs.{pairs}
+use Rattle.filebench.specs.Runs.{zeros, Makes}
 
 -- `write` with a limit, room f for a file, words ws and rules bs: the file's length, and its bytes that are not 0
 pub data WriteSays (limit : ℕ) (f ws bs : List ℕ) : List ℕ → List ℕ → Type 0 where
@@ -45,8 +46,18 @@ pub data ReadSays (f a b : List ℕ) : List ℕ → List ℕ → Type 0 where
   says-ok : {ws bs : List ℕ} {x : Problem} → Reads edition1 f a b ws bs (Reading.Ok x) → ReadSays f a b OK (problemLine x ws bs)
   says-refused : {ws bs : List ℕ} {n p : ℕ} → Reads edition1 f a b ws bs (Reading.Refused n p) → ReadSays f a b REFUSED (n ∷ p ∷ [])
 
--- read WORDS RULES LENGTH, at most 128 numbers, 2,048 bytes and 4,096 bytes. A file of the length was read, and what is said of it put; or nothing was put
+-- read WORDS RULES LENGTH, at most 128 numbers, 2,048 bytes and 4,096 bytes
+pub record ReadFair (ns : List ℕ) : Type 0 where
+  pub own : 3 ≤ length ns
+  pub words : at ns 0 ≤ 128
+  pub rules : at ns 1 ≤ 2048
+  pub size : at ns 2 ≤ 4096
+
+-- the file of the line: zeros of the length, and over them the runs that follow
+abbrev pub IsFile : List ℕ → List ℕ → Type 0
+IsFile ns f = Makes ns f 3 (zeros (at ns 2))
+
+-- it was read, and what is said of it put; or there is none, and nothing was put
 pub data ReadReplied (ns name l m : List ℕ) (r : ℕ) : Type 0 where
-  read-said : {f : List ℕ} → at ns 0 ≤ 128 → at ns 1 ≤ 2048 → at ns 2 ≤ 4096 → length f ≡ at ns 2
-      → Said (ReadSays f (dirt (at ns 0)) (dirt (at ns 1))) name l m r → ReadReplied ns name l m r
-  not-read : m ≡ l → r ≡ 0 → ReadReplied ns name l m r
+  read-said : {f : List ℕ} → ReadFair ns → IsFile ns f → Said (ReadSays f (dirt (at ns 0)) (dirt (at ns 1))) name l m r → ReadReplied ns name l m r
+  not-read : (ReadFair ns → (f : List ℕ) → ¬ IsFile ns f) → m ≡ l → r ≡ 0 → ReadReplied ns name l m r

@@ -5,9 +5,22 @@ use lines::Listed;
 ghost use mathlib.Core.Path.{_≡_};
 ghost use Prim.Native.Nat.{_≤_};
 ghost use lib.ListN.{length};
+ghost use Rattle.lines.specs.Putting.{put};
+ghost use Rattle.filebench.specs.Runs.{zeros, Fits, RunFits, runPut, DoneIf, Made};
+
+// The longest file before its runs are put.
+pub fn blank() -> [u8; 4096]
+    ensures { λ r. ⌜ (4096 ≡ length r) × (r ≡ zeros 4096) ⌝ }
+{
+    [0; 4096]
+}
 
 // Bytes put at a place of the file: whether they are bytes and it has room for them there.
-fn put_at(file: &mut [u8], at: usize, bytes: &[u64]) -> bool {
+fn put_at(file: &mut [u8], at: usize, bytes: &[u64]) -> bool
+    ensures { λ r. ⌜
+        DoneIf (Fits (now (file .entry)) (now (bytes .entry)) at) (now (file .exit) ≡ put (now (file .entry)) at (now (bytes .entry))) r
+        ⌝ }
+{
     if file.len() < at {
         return false;
     }
@@ -17,6 +30,10 @@ fn put_at(file: &mut [u8], at: usize, bytes: &[u64]) -> bool {
 // One run put: whether it is within the file.
 fn put_run(file: &mut [u8], first: usize, times: usize, step: usize, bytes: &[u64]) -> bool
     requires { ⌜ (length (now file) ≤ 4096) × (step ≤ 4096) ⌝ }
+    ensures { λ r. ⌜
+        DoneIf (RunFits (now (file .entry)) (now (bytes .entry)) first step times)
+        (now (file .exit) ≡ runPut (now (file .entry)) (now (bytes .entry)) first step times) r
+        ⌝ }
 {
     let mut at = first;
     let mut i = 0;
@@ -36,7 +53,7 @@ fn put_run(file: &mut [u8], first: usize, times: usize, step: usize, bytes: &[u6
 // All runs of a line put, from its number `first` on: whether the line can be read so.
 pub fn put_runs(file: &mut [u8], numbers: &[u64], first: usize) -> bool
     requires { ⌜ length (now file) ≤ 4096 ⌝ }
-    ensures { λ _. ⌜ length (now (file .exit)) ≡ length (now (file .entry)) ⌝ }
+    ensures { λ r. ⌜ Made (now (numbers .entry)) first (now (file .entry)) (now (file .exit)) r ⌝ }
 {
     let mut at = first;
     while at < numbers.len() {

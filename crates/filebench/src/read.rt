@@ -2,6 +2,7 @@
 use crate::FILE;
 use crate::RULES;
 use crate::WORDS;
+use crate::file::blank;
 use crate::file::put_runs;
 use crate::list::put_bytes;
 use benchtop::list::put;
@@ -93,7 +94,7 @@ pub fn read(name: &[u8], numbers: &[u64], out: &mut [u8]) -> usize
     if FILE < length {
         return 0;
     }
-    let mut file = memory::file();
+    let mut file = blank();
     if !put_runs(&mut file[..length], numbers, 3) {
         return 0;
     }

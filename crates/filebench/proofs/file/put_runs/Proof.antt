@@ -1,17 +1,18 @@
 -- `filebench::file::put_runs` meets its contract. Assumes nothing.
-use mathlib.Core.Path.{_≡_, subst}
+use mathlib.Core.Path.{_≡_, refl, subst}
 use Prim.Native.Nat.{_+_, _-_}
 use native.Mathlib.Omega.{arith}
 use lib.ListN.{length}
 use denote.Ref.{now}
 use Rattle.lines.specs.declared.Listed.the-variants.{Before}
 use Rattle.lines.specs.Lists.{Ends}
+use Rattle.filebench.proofs.Making.{Onward, onward-start, onward-turn, onward-end, cut-off, too-far, no-fit}
 use borrow.Author.Needs.{needs}
 use Rattle.filebench.proofs.file.put_runs.Statement.{statement}
 use Rattle.filebench.proofs.file.put_runs.Tie as tie
 
 abbrev Inv-loop : tie.InvT-loop
-Inv-loop file₀ numbers first at₀ file at = length file ≡ length file₀
+Inv-loop file₀ numbers first at₀ file at = (length file ≡ length file₀) × Onward numbers first file₀ at file
 
 abbrev μ-loop : tie.MeasureT-loop
 μ-loop file₀ numbers first at₀ file at = length numbers - at
@@ -23,7 +24,7 @@ ended : (c : tie.After-known-told Inv-loop μ-loop)
 ended c = subst (Ends _ _) (c .before .end .given .1) (c .before .before .before .list-end .ensures)
 
 loop-holds : tie.Need-loop-holds Inv-loop μ-loop
-loop-holds c = search needs
+loop-holds c = (refl, onward-start _ _ _)
 
 add-list-end : tie.Need-add-list-end Inv-loop μ-loop
 add-list-end c = search needs
@@ -41,7 +42,9 @@ same-length : tie.Need-same-length Inv-loop μ-loop
 same-length c = search needs
 
 returns : tie.Need-returns Inv-loop μ-loop
-returns c = search needs
+returns c =
+    let e = c .before .before in
+    cut-off (e .before .before .loop .inv .1) (omega arith) (subst (Ends _ _) (c .enum-told .given .1) (e .list-end .ensures))
 
 mul-place : tie.Need-mul-place Inv-loop μ-loop
 mul-place c = search needs
@@ -71,7 +74,9 @@ same-length-2 : tie.Need-same-length-2 Inv-loop μ-loop
 same-length-2 c = search needs
 
 returns-2 : tie.Need-returns-2 Inv-loop μ-loop
-returns-2 c = search needs
+returns-2 c =
+    let k = c .before .before .before .before in
+    too-far (k .before .before .before .before .before .loop .inv .1) (omega arith) (c .if1 .taken)
 
 add-put-run : tie.Need-add-put-run Inv-loop μ-loop
 add-put-run c = record { fits = omega (arith, ended (c .before .before .before .before .before) .0, ended (c .before .before .before .before .before) .1) }
@@ -95,7 +100,11 @@ same-length-3 : tie.Need-same-length-3 Inv-loop μ-loop
 same-length-3 c = search needs
 
 returns-3 : tie.Need-returns-3 Inv-loop μ-loop
-returns-3 c = search needs
+returns-3 c =
+    let r = c .before .before .before in
+    let k = r .before .before .before .before .before .before .before in
+    no-fit (k .before .before .before .before .before .loop .inv .1) (omega arith) (k .before .end .given .0 .0) (ended k) (c .if2 .taken)
+    (r .put-run .ensures)
 
 loop-less : tie.Need-loop-less Inv-loop μ-loop
 loop-less c =
@@ -103,13 +112,18 @@ loop-less c =
     omega (arith, ended k .0, ended k .1)
 
 loop-again : tie.Need-loop-again Inv-loop μ-loop
-loop-again c = search needs
+loop-again c =
+    let r = c .before .before .before in
+    let k = r .before .before .before .before .before .before .before in
+    let l = k .before .before .before .before .before in
+    let x = onward-turn (l .loop .inv .1) (k .before .end .given .0 .0) (ended k) (c .if2 .left) (r .put-run .ensures) in
+    (omega (arith, r .put-run .kept, l .loop .inv .0), x)
 
 same-length-4 : tie.Need-same-length-4 Inv-loop μ-loop
 same-length-4 c = search needs
 
 returns-4 : tie.Need-returns-4 Inv-loop μ-loop
-returns-4 c = search needs
+returns-4 c = onward-end (c .before .loop .inv .1) (omega arith)
 
 pub put-runs-spec : {M : Type 1} → statement M
 put-runs-spec =

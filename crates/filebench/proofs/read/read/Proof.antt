@@ -1,16 +1,20 @@
 -- `filebench::read::read` meets its contract. Assumes nothing.
+use mathlib.Core.Path.{subst}
 use native.Mathlib.Omega.{arith}
 use lib.ListN.{length-append, length-take, length-drop}
 use denote.Ref.{now}
 use Rattle.words.specs.Table.{at}
 use Rattle.benchtop.proofs.Dirts.{dirt-take, dirt-lent}
-use Rattle.filebench.proofs.Reading.{read-replied, unread}
+use Rattle.filebench.specs.Runs.{Made}
+use Rattle.filebench.proofs.Making.{zeros-take, lent-back}
+use Rattle.filebench.proofs.Reading.{read-replied, unread, no-file}
+use borrow.Author.Tests.{not-true, not-false}
 use borrow.Author.Needs.{needs}
 use Rattle.filebench.proofs.read.read.Statement.{statement}
 use Rattle.filebench.proofs.read.read.Tie as tie
 
 returns : tie.Need-returns
-returns c = unread
+returns c = unread (λ fair f y. omega (arith, fair .own, c .if1 .taken))
 
 shared-slice-read-w : tie.Need-shared-slice-read-w
 shared-slice-read-w c = search needs
@@ -22,16 +26,16 @@ shared-slice-read-length : tie.Need-shared-slice-read-length
 shared-slice-read-length c = search needs
 
 returns-2 : tie.Need-returns-2
-returns-2 c = unread
+returns-2 c = unread (λ fair f y. omega (arith, fair .words, c .if2 .taken))
 
 returns-3 : tie.Need-returns-3
-returns-3 c = unread
+returns-3 c = unread (λ fair f y. omega (arith, fair .rules, c .if3 .taken))
 
 returns-4 : tie.Need-returns-4
-returns-4 c = unread
+returns-4 c = unread (λ fair f y. omega (arith, fair .size, c .if4 .taken))
 
-file-requires : tie.Need-file-requires
-file-requires c κs = search needs
+blank-requires : tie.Need-blank-requires
+blank-requires c κs = search needs
 
 array-borrow-prefix-file : tie.Need-array-borrow-prefix-file
 array-borrow-prefix-file c = search needs
@@ -43,7 +47,12 @@ put-runs-requires : tie.Need-put-runs-requires
 put-runs-requires c κs = simp length-take (omega arith)
 
 returns-5 : tie.Need-returns-5
-returns-5 c = unread
+returns-5 c =
+    let p = c .before .before in
+    let i = p .before .before .before in
+    let ns = now (i .before .before .before .before .before .before .before .before .before .before .args .numbers) in
+    no-file (zeros-take (at ns 2) 4096 (p .before .before .blank .ensures .1) (i .if4 .left))
+    (subst (Made _ _ _ _) (not-true (p .put-runs .result) (c .if5 .taken)) (p .put-runs .ensures))
 
 dirty-words-requires : tie.Need-dirty-words-requires
 dirty-words-requires c κs = search needs
@@ -91,10 +100,20 @@ returns-6 c =
     let w = v .before .before .before .before .before in
     let i = w .before .before .before .before .before .before .before in
     let ns = now (i .before .before .before .before .before .before .before .before .before .before .args .numbers) in
-    read-replied (i .before .before .if2 .left) (i .before .if3 .left) (i .if4 .left)
+    let p = w .before .before .before .before in
+    let b = p .before .before in
+    read-replied
+    (record {
+      own = i .before .before .before .before .before .before .if1 .left;
+      words = i .before .before .if2 .left;
+      rules = i .before .if3 .left;
+      size = i .if4 .left;
+    })
+    (zeros-take (at ns 2) 4096 (b .blank .ensures .1) (i .if4 .left))
+    (subst (Made _ _ _ _) (not-false (p .put-runs .result) (w .before .before .if5 .left)) (p .put-runs .ensures))
+    (lent-back (b .blank .result) _ (at ns 2) (p .put-runs .kept .0) (omega (arith, b .blank .ensures .0, i .if4 .left)))
     (dirt-take (at ns 0) 128 (w .before .dirty-words .ensures .1) (i .before .before .if2 .left))
-    (dirt-take (at ns 1) 4096 (w .dirty-bytes .ensures .1) (omega (arith, i .before .if3 .left)))
-    (slice-aggregate-read-lent (v .before .before .before .before)) (v .read-lent .ensures)
+    (dirt-take (at ns 1) 4096 (w .dirty-bytes .ensures .1) (omega (arith, i .before .if3 .left))) (v .read-lent .ensures)
 
 pub read-spec : {M : Type 1} → statement M
 read-spec =
@@ -107,7 +126,7 @@ read-spec =
     returns-2
     returns-3
     returns-4
-    file-requires
+    blank-requires
     array-borrow-prefix-file
     slice-aggregate-put-runs
     put-runs-requires
