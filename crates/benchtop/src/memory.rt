@@ -22,13 +22,6 @@ pub fn rules() -> [u8; 2048]
     [0; 2048]
 }
 
-// For the file of a line.
-pub fn file() -> [u8; 4096]
-    ensures { λ r. ⌜ 4096 ≡ length r ⌝ }
-{
-    [0; 4096]
-}
-
 pub fn work() -> [u64; 512]
     ensures { λ r. ⌜ (512 ≡ length r) × (r ≡ dirt 512) ⌝ }
 {

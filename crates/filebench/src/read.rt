@@ -22,11 +22,6 @@ ghost use Rattle.benchtop.specs.Told.{Answered, ToldIf};
 ghost use Rattle.benchtop.specs.Replied.{Said};
 ghost use Rattle.filebench.specs.Says.{countsOf, problemLine, Beyond, ReadSays, ReadReplied};
 
-// Numbers a word, and bytes a rule.
-const STRIDE: usize = 3;
-
-const FIELDS: usize = 6;
-
 // The numbers of the answer OK: the counts, the limit, the words and the rules.
 fn listed(out: &mut [u64], x: Problem, words: &[u64], rules: &[u8]) -> usize
     requires { ⌜ 3 + length (now words) + length (now rules) ≤ length (now out) ⌝ }
@@ -51,8 +46,8 @@ fn told(name: &[u8], x: Problem, words: &[u64], rules: &[u8], out: &mut [u8]) ->
 {
     let n = x.words;
     let m = x.rules;
-    let w = STRIDE * n;
-    let r = FIELDS * m;
+    let w = checker::STRIDE * n;
+    let r = checker::FIELDS * m;
     let fine = lines::all(&words[w..], DIRT) & lines::all_bytes(&rules[r..], DIRT_BYTE);
     let mut numbers = memory::numbers();
     let k = listed(&mut numbers, x, &words[..w], &rules[..r]);
