@@ -1,7 +1,7 @@
 #!/usr/bin/env python3
 """The boards that the program `boards` runs, answered anew from the product's paper and compared with what the program must print.
 
-Reads crates/boards/stdin, computes each answer anew, tightening by going through every fit, and compares with crates/boards/stdout line by line.
+Reads tests/boards/boards.txt, computes each answer anew, tightening by going through every fit, and compares with tests/boards/answers.txt line by line.
 It shares no code and no table with the crates.
 """
 import itertools
@@ -9,8 +9,8 @@ import sys
 
 import blockfiles
 
-STDIN = "crates/boards/stdin"
-STDOUT = "crates/boards/stdout"
+STDIN = "tests/boards/boards.txt"
+STDOUT = "tests/boards/answers.txt"
 
 # kind: the fields it uses (r a b s k), and what its values must satisfy
 USES = {1: "ra", 2: "ra", 3: "rab", 4: "rab", 5: "rab", 6: "rab", 7: "rabs", 8: "rak", 9: "rab", 10: "rak", 11: "rak", 12: "ab", 13: "ab", 14: "ab"}

@@ -1,5 +1,4 @@
 -- One block as bytes: its length, its sum, its header, what follows it; and a sound block is the block of its own fields.
--- Assumes nothing.
 use mathlib.Core.Path.{_≡_, refl, sym, ap, _∙_}
 use mathlib.Core.Logic.{_≢_}
 use mathlib.Core.List.{List, _∷_, _++_}

@@ -1,5 +1,4 @@
 -- Case A: the file of no words, no rules and limit 0 is one block.
--- Assumes nothing.
 use mathlib.Core.Path.{_≡_, refl, sym, ap}
 use mathlib.Core.List.{List, [], _∷_}
 use Prim.Native.Nat.{ℕ, _≤_}

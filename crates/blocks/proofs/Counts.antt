@@ -1,5 +1,4 @@
 -- How many blocks n records take, k to a block, and how many of them each block holds.
--- Assumes nothing.
 use mathlib.Core.Path.{_≡_, sym, ap, _∙_}
 use Prim.Native.Nat.{ℕ, zero, suc, _+_, _-_, _*_, _/_, _%_, _<_, _≤_, min}
 use native.Mathlib.Nat.{mul-suc, mul-zero, suc-mul, mul-comm, le-div-iff-mul-le, mod-eq-of-lt, mul-add-mod-self-left}

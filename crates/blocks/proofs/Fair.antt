@@ -1,5 +1,4 @@
 -- Editions whose records fit their blocks and whose files may have as many blocks as the totals ask for. All laws are about such editions; edition 1 is one.
--- Assumes nothing.
 use mathlib.Core.Path.{_≡_, refl}
 use mathlib.Core.List.{List}
 use Prim.Native.Nat.{ℕ, suc, zero, _+_, _*_, _<_, _≤_}

@@ -1,5 +1,4 @@
 -- A proper file is just the file of the records that stand in it, whatever the records are.
--- Assumes nothing.
 use mathlib.Core.Path.{_≡_, refl, sym, _∙_}
 use mathlib.Core.List.{List, _++_}
 use Prim.Native.Nat.{ℕ, _+_, _*_, _<_}

@@ -1,5 +1,4 @@
 -- Blocks of one kind in order: one block more, one less, how many there are and how many records each holds.
--- Assumes nothing.
 use mathlib.Core.Path.{_≡_, sym, ap, _∙_, subst}
 use mathlib.Core.List.{List}
 use Prim.Native.Nat.{ℕ, zero, suc, _+_, _*_, _%_, _<_}

@@ -1,5 +1,4 @@
 -- The machine reads a file in one way: one count of words and rules, one limit; and every block that it accepts has its sum right.
--- Assumes nothing.
 use mathlib.Core.Path.{_≡_, refl, sym, _∙_, subst}
 use mathlib.Core.List.{List}
 use Prim.Native.Nat.{ℕ, suc, _+_, _<_}

@@ -1,5 +1,4 @@
 -- The file of a problem is proper, and the numbers read off it are the problem's.
--- Assumes nothing.
 use mathlib.Core.Path.{_≡_, ap, _∙_, subst}
 use mathlib.Core.List.{List, _∷_}
 use Prim.Native.Nat.{ℕ, _+_, _*_, _/_, _%_, _<_}

@@ -1,5 +1,4 @@
 -- A block of records, and an end block, as the paper says them, are just the blocks of those bytes.
--- Assumes nothing.
 use mathlib.Core.Path.{_≡_, sym, ap, _∙_, subst}
 use mathlib.Core.List.{List, _++_}
 use Prim.Native.Nat.{ℕ, _+_, _-_, _*_, _^_, _<_, _≤_}

@@ -1,5 +1,4 @@
 -- Writing then reading gives the same problem; a file that reads is written back byte by byte; two files that read as one problem are equal.
--- Assumes nothing.
 use mathlib.Core.Path.{_≡_, refl, sym, ap, _∙_, subst}
 use mathlib.Core.List.{List}
 use Prim.Native.Nat.{ℕ, _+_, _*_, _≤_}

@@ -1,5 +1,4 @@
 -- The check of a block: a sealed block is sound, and a sound block is the seal of itself without its check.
--- Assumes nothing.
 use mathlib.Core.Path.{_≡_, _∙_}
 use mathlib.Core.Logic.{_≢_}
 use mathlib.Core.List.{List}

@@ -1,5 +1,4 @@
 -- What the machine has accepted is words blocks in order and then rules blocks in order, and the other way round.
--- Assumes nothing.
 use mathlib.Core.Path.{_≡_, refl, sym, _∙_, subst}
 use mathlib.Core.List.{List}
 use Prim.Native.Nat.{ℕ, zero, suc, _+_, _*_, _≤_}

@@ -1,5 +1,4 @@
 -- The running sum of a block: one number more, with wrapping, and all of them.
--- Assumes nothing.
 use mathlib.Core.Path.{_≡_, ap, _∙_, subst}
 use mathlib.Core.List.{List}
 use Prim.Native.Nat.{ℕ, _+_, _%_, _^_, _≤_}

@@ -1,5 +1,4 @@
 -- Bytes: little-endian numbers, parts of a list, pieces one after the other, and numbers added up.
--- Assumes nothing: these are definitions.
 use mathlib.Core.List.{List, [], _∷_, _++_}
 use Prim.Native.Nat.{ℕ, zero, suc, _+_, _*_, _/_, _%_, _<_}
 use lib.ListN.{length, take, drop, replicate}

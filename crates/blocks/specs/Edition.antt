@@ -1,6 +1,5 @@
 -- What an edition of block files fixes: its number, the form of its records, how many blocks a file may have, and what refuses a problem.
 -- Everything else in this crate holds of any edition whose records fit their blocks.
--- Assumes nothing: these are definitions.
 use mathlib.Core.List.{List}
 use Prim.Native.Nat.{ℕ}
 use Rattle.checker.specs.declared.Checked.{Checked}

@@ -1,5 +1,4 @@
 -- Word records and rule records: the bytes of the lent numbers that stand for a word or a rule.
--- Assumes nothing: these are definitions.
 use mathlib.Core.List.{List, _∷_, _++_}
 use Prim.Native.Nat.{ℕ}
 use Rattle.rules.specs.Tight.{Rule}

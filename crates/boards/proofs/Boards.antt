@@ -1,5 +1,4 @@
 -- Every row of the table of boards follows from the definitions.
--- Assumes nothing.
 use mathlib.Core.Path.{_≡_, refl, subst}
 use lib.Dec.{T}
 use Rattle.rules.specs.Kinds.{kindOf}

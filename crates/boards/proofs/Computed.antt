@@ -1,5 +1,4 @@
 -- The answer of a row, computed from the definitions; a row with its computed answer follows from them.
--- Assumes nothing.
 use mathlib.Core.Path.{refl}
 use mathlib.Core.Bool.{Bool, true, false, _&&_}
 use mathlib.Core.List.{List, [], _∷_}

@@ -1,5 +1,4 @@
 -- A rule added may raise the count, though never the ceiling: one open word of width 2 takes 2 guesses, and with "it is not itself" 3.
--- Assumes nothing.
 use mathlib.Core.Path.{_≡_, refl, subst}
 use mathlib.Core.List.{List, [], _∷_}
 use lib.Dec.{T}

@@ -1,5 +1,4 @@
 -- Tests that a problem's table is proper and that a question is about a legal rule, for problems that are written out.
--- Assumes nothing.
 use mathlib.Core.Path.{refl, ap}
 use mathlib.Core.Bool.{Bool, true, false, _&&_}
 use mathlib.Core.List.{List, [], _∷_}

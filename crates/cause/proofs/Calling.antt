@@ -1,5 +1,4 @@
 -- The call's own steps: what is not refused is a proper problem with room, and what the trials come to is the answer.
--- Assumes nothing.
 use mathlib.Core.Path.{_≡_, sym, ap, subst, _∙_}
 use mathlib.Core.Bool.{true, false}
 use mathlib.Core.List.{List, []}

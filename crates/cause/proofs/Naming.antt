@@ -1,5 +1,4 @@
 -- What the entries that `cause` gives back are: a list of rules without settings, of which none can be left out.
--- Assumes nothing.
 use mathlib.Core.Path.{_≡_, sym, subst, _∙_}
 use mathlib.Core.Logic.{_≢_}
 use mathlib.Core.List.{List, map}

@@ -1,5 +1,4 @@
 -- Two results that the promise of `cause` allows are equal: the answer, every number of the list, and every number of work memory.
--- Assumes nothing.
 use mathlib.Core.Path.{_≡_, refl, sym, _∙_}
 use mathlib.Core.List.{List}
 use Prim.Native.Nat.{ℕ, _<_}

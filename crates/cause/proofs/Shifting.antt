@@ -1,5 +1,4 @@
 -- The list of rule numbers moved down and up by one, and its first numbers given back.
--- Assumes nothing.
 use mathlib.Core.Path.{_≡_, refl, _∙_}
 use mathlib.Core.Logic.{_≢_}
 use mathlib.Core.List.{List}

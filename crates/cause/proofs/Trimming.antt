@@ -1,5 +1,4 @@
 -- All trials, one after the other: what is decided so far is part of the paper's procedure, whatever the rest comes to.
--- Assumes nothing.
 use mathlib.Core.Path.{_≡_, refl, _∙_}
 use mathlib.Core.Bool.{true, false}
 use mathlib.Core.List.{List, []}

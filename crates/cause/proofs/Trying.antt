@@ -1,5 +1,4 @@
 -- One trial: the rule taken out of the list, the search of the rest, and what is kept then.
--- Assumes nothing.
 use mathlib.Core.Path.{_≡_, refl, sym, ap, _∙_}
 use mathlib.Core.Bool.{true, false}
 use mathlib.Core.List.{List, _∷_, _++_, map}

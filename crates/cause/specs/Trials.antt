@@ -1,5 +1,4 @@
 -- One trial, and all of them, as they stand in work memory.
--- Assumes nothing: these are definitions.
 use mathlib.Core.Path.{_≡_}
 use mathlib.Core.Bool.{true, false}
 use mathlib.Core.List.{List, [], _∷_}

@@ -1,5 +1,4 @@
 -- A cause is irreducible: every list got by leaving out one or more of its rules has settings, whatever a search at this limit would say of it.
--- Assumes nothing.
 use mathlib.Core.Path.{_≡_, refl, sym, ap, _∙_, subst}
 use mathlib.Core.Logic.{_≢_, _⊎_, inl, inr}
 use mathlib.Core.List.{List, [], _∷_, map}

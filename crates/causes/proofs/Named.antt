@@ -1,5 +1,4 @@
 -- The cause, computed with any solving that is right: every problem has one, at every limit.
--- Assumes nothing.
 use mathlib.Core.List.{List, [], _∷_}
 use Prim.Native.Nat.{ℕ, zero, suc, _+_}
 use lib.ListN.{length}

@@ -1,5 +1,4 @@
 -- Two causes allowed for one problem and one limit are equal.
--- Assumes nothing.
 use mathlib.Core.Path.{_≡_, refl, ap}
 use mathlib.Core.List.{List}
 use Prim.Native.Nat.{ℕ}

@@ -1,5 +1,4 @@
 -- The count of a cause is a sum that the first search is part of, and that no search exceeds the limit in; a cause names at most all rules.
--- Assumes nothing.
 use mathlib.Core.List.{List}
 use Prim.Native.Nat.{ℕ, suc, _+_, _*_, _≤_}
 use native.Mathlib.Nat.{le-refl}

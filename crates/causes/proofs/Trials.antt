@@ -1,5 +1,4 @@
 -- The trials for a cause: each has its own ceiling, a limit that reaches all of them never gives up, and the sum is at most their sum.
--- Assumes nothing.
 use mathlib.Core.Path.{_≡_, refl, sym, ap, _∙_}
 use mathlib.Core.Logic.{_≢_, _⊎_, inl, inr}
 use mathlib.Core.List.{List, [], _∷_}

@@ -1,5 +1,4 @@
 -- The rules of a cause have no settings, and a cause names at least one rule.
--- Assumes nothing.
 use mathlib.Core.Path.{_≡_, sym, ap, _∙_, subst}
 use mathlib.Core.List.{List, [], _∷_, _++_, map, append-nil, append-assoc}
 use Prim.Native.Nat.{ℕ, suc, _≤_, _<_}

@@ -1,5 +1,4 @@
 -- The refusal of a word, of a rule and of a problem, by what their tests gave.
--- Assumes nothing.
 use mathlib.Core.Path.{_≡_, refl}
 use mathlib.Core.Bool.{Bool, true, false}
 use mathlib.Core.List.{List}

@@ -1,5 +1,4 @@
 -- What is asked before a demand of a word, of a rule or of the limit is met, where what goes before was OK.
--- Assumes nothing.
 use mathlib.Core.Path.{_≡_, refl, sym, subst, _∙_}
 use mathlib.Core.Logic.{⊎-elim}
 use mathlib.Core.List.{List}

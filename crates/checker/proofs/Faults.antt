@@ -1,5 +1,4 @@
 -- The faults that "What comes back" names, each a demand that is not met; the first of them is the check's answer.
--- Assumes nothing.
 use mathlib.Core.Path.{_≡_, refl, sym}
 use mathlib.Core.Logic.{_≢_}
 use mathlib.Core.List.{List}

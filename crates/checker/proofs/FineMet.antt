@@ -1,5 +1,4 @@
 -- All demands are met just where the numbers stand for a proper problem.
--- Assumes nothing.
 use mathlib.Core.Path.{_≡_, sym, subst, fun-ext}
 use mathlib.Core.List.{List}
 use Prim.Native.Nat.{ℕ, _%_, _<_}

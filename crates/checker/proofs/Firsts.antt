@@ -1,5 +1,4 @@
 -- The first refusal of a run: what is known of those before it, and of all where there is none.
--- Assumes nothing.
 use mathlib.Core.Path.{_≡_, refl, sym, ap, subst, _∙_}
 use mathlib.Core.Bool.{Bool, true, false}
 use mathlib.Core.Logic.{⊎-elim}

@@ -1,5 +1,4 @@
 -- The order of the demands: what comes before one of a word, of a rule or of the limit, and that two of which neither comes first have one number and place.
--- Assumes nothing.
 use mathlib.Core.Path.{_≡_}
 use mathlib.Core.Logic.{_⊎_, inl, inr}
 use Prim.Native.Nat.{_≤_, _<_}

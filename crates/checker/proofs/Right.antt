@@ -1,5 +1,4 @@
 -- The promise of the check: OK is a proper problem, a refusal is the first demand that is not met, and no other answer is right.
--- Assumes nothing.
 use mathlib.Core.Path.{_≡_, refl, sym, subst}
 use mathlib.Core.Bool.{Bool, true, false}
 use mathlib.Core.List.{List}

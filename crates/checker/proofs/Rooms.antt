@@ -1,5 +1,4 @@
 -- Lent memory that is too short is refused; where there is enough, what follows decides.
--- Assumes nothing.
 use mathlib.Core.Path.{_≡_}
 use Prim.Native.Nat.{ℕ, _≤_, _<_}
 use lib.Dec.{leb}

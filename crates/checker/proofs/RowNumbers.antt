@@ -1,5 +1,4 @@
 -- What the code compares in place of sums of widths, and a row's numbers read back.
--- Assumes nothing.
 use mathlib.Core.Path.{_≡_, refl, sym, fun-ext}
 use mathlib.Core.Logic.{_≢_}
 use mathlib.Core.Bool.{Bool, true, false}

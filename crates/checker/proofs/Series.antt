@@ -1,5 +1,4 @@
 -- Lent numbers as lists of widths, bounds and rules: what stands at each index.
--- Assumes nothing.
 use mathlib.Core.Path.{_≡_, refl, sym, _∙_}
 use mathlib.Core.List.{List}
 use Prim.Native.Nat.{ℕ, zero, suc, _+_, _*_, _%_, _≤_, _<_}

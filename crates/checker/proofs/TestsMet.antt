@@ -1,5 +1,4 @@
 -- Each test says its demand: a word or rule passes just where it meets what is asked of it.
--- Assumes nothing.
 use mathlib.Core.Path.{_≡_}
 use mathlib.Core.Bool.{Bool, true, false, _||_}
 use mathlib.Core.List.{List}

@@ -1,6 +1,5 @@
 -- What is asked of a problem, each demand with the number and the place of its refusal, and the order in which they are asked:
 -- 1; word by word 4 then 5; rule by rule 6, 7, 8; then 9.
--- Assumes nothing: these are definitions.
 use mathlib.Core.Path.{_≡_}
 use mathlib.Core.List.{List}
 use Prim.Native.Nat.{ℕ, _%_, _≤_, _<_}

@@ -1,5 +1,4 @@
 -- Lent numbers as a problem: three numbers a word, six bytes a rule, one after the other.
--- Assumes nothing: these are definitions.
 use mathlib.Core.List.{List, [], _∷_}
 use Prim.Native.Nat.{ℕ, zero, suc, _+_, _*_, _/_}
 use lib.ListN.{length}

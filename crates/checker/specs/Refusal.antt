@@ -1,5 +1,4 @@
 -- What comes back from a check: the first refusal, going through sizes, words, rules and limit in order, or OK.
--- Assumes nothing: these are definitions.
 use mathlib.Core.Bool.{Bool, true, false}
 use mathlib.Core.List.{List}
 use Prim.Native.Nat.{ℕ, zero, suc}

@@ -1,5 +1,4 @@
 -- What the narrowing of a rule says of a bit is what the rule says of it; and whether an answer stays is told by comparing it with the one that is found.
--- Assumes nothing.
 use mathlib.Core.Path.{_≡_, refl, sym, ap, _∙_, subst}
 use mathlib.Core.Logic.{_≢_}
 use mathlib.Core.Bool.{Bool, true, false}

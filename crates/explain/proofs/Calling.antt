@@ -1,5 +1,4 @@
 -- The call's own steps: the answer for an open bit, and the refusals, as the promise says.
--- Assumes nothing.
 use mathlib.Core.Path.{_≡_, refl, sym, ap, _∙_}
 use mathlib.Core.List.{List, []}
 use Prim.Native.Nat.{ℕ, _≤_, _<_}

@@ -1,5 +1,4 @@
 -- Two results that the promise of `explain` allows are equal: the answer with its value, place and count, and every number of the list.
--- Assumes nothing.
 use mathlib.Core.Path.{_≡_, refl, sym, ap, _∙_}
 use mathlib.Core.List.{List}
 use Prim.Native.Nat.{ℕ}

@@ -1,5 +1,4 @@
 -- Bounds held by value in which a bit is treated as open at one place: as bounds of the rule's places they are what `opened` says.
--- Assumes nothing.
 use mathlib.Core.Path.{_≡_, refl, ap, _∙_, fun-ext}
 use mathlib.Core.Logic.{_≢_}
 use Prim.Native.Nat.{ℕ, _+_, _-_, _^_}

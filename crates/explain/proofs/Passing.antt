@@ -1,5 +1,4 @@
 -- Fixed bits gone through: one bit dropped or kept, and parts one after the other.
--- Assumes nothing.
 use mathlib.Core.Path.{_≡_, refl, sym, _∙_}
 use mathlib.Core.Logic.{_≢_}
 use mathlib.Core.List.{List, [], _∷_, _++_, append-assoc, append-nil}

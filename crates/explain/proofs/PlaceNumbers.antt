@@ -1,5 +1,4 @@
 -- The places of a rule by their numbers: the last one, the fields of a rule, and entries; and a bit of what stands at a place.
--- Assumes nothing.
 use mathlib.Core.Path.{_≡_, refl, ap, _∙_}
 use mathlib.Core.Logic.{_≢_}
 use Prim.Native.Nat.{ℕ, zero, suc, _+_, _≤_}

@@ -1,5 +1,4 @@
 -- Whether a question asks for an open bit: what the code finds at the place it names.
--- Assumes nothing.
 use mathlib.Core.Path.{_≡_, refl, sym, _∙_, subst}
 use mathlib.Core.Logic.{_≢_}
 use mathlib.Core.Bool.{Bool, true, false}

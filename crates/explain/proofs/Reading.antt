@@ -1,5 +1,4 @@
 -- What is read from lent numbers: the question and the bounds are those of the rule's own places over the table as given.
--- Assumes nothing.
 use mathlib.Core.Path.{_≡_, sym, ap, _∙_}
 use mathlib.Core.List.{List}
 use Prim.Native.Nat.{ℕ, _+_, _*_, _<_}

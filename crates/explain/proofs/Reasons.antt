@@ -1,5 +1,4 @@
 -- What the list holds after `explain`: the bits of the reason alone give the answer, and with any one of them treated as open too it does not stay.
--- Assumes nothing.
 use mathlib.Core.Path.{_≡_, refl, ap, _∙_}
 use mathlib.Core.List.{List, []}
 use Prim.Native.Nat.{ℕ, _≤_, _<_}

@@ -1,5 +1,4 @@
 -- The places of a rule gone through: the fixed bits of one place bit by bit, then the four places, after which the list holds the reason.
--- Assumes nothing.
 use mathlib.Core.Path.{_≡_, sym, ap, _∙_}
 use mathlib.Core.Bool.{true, false}
 use mathlib.Core.List.{List, _++_, append-assoc, append-nil}

@@ -1,5 +1,4 @@
 -- A question about a rule: which place and bit may be asked for, and what an answer of the code is in the paper's words.
--- Assumes nothing: these are definitions.
 use mathlib.Core.Path.{_≡_}
 use mathlib.Core.Bool.{Bool, true, false}
 use Prim.Native.Nat.{ℕ, _≤_, _<_}

@@ -1,5 +1,4 @@
 -- Fixed bits gone through in turn, from the bounds and the list before to the bounds and the list after.
--- Assumes nothing: these are definitions.
 use mathlib.Core.Path.{_≡_}
 use mathlib.Core.Bool.{cond}
 use mathlib.Core.List.{List, [], _∷_, _++_}

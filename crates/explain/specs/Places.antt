@@ -1,5 +1,4 @@
 -- The places of a rule by their numbers: 0 r, 1 a, 2 b, 3 s.
--- Assumes nothing: these are definitions.
 use mathlib.Core.List.{[], _∷_}
 use Prim.Native.Nat.{ℕ}
 use lib.ListN.{getD}

@@ -1,5 +1,4 @@
 -- A question and the bounds of a rule's places as they are read from lent numbers.
--- Assumes nothing: these are definitions.
 use mathlib.Core.List.{List}
 use Prim.Native.Nat.{ℕ}
 use Rattle.checker.specs.Lent.{widthAt, loAt, hiAt, ruleAt}

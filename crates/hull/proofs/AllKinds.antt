@@ -1,5 +1,4 @@
 -- What is computed for each kind is the hull: the theorem of the fourteen kinds. And what each function asks of a rule follows from a legal one.
--- Assumes nothing.
 use mathlib.Core.Path.{_≡_, refl}
 use Prim.Native.Nat.{ℕ, zero, suc, _+_, _-_, _<_}
 use native.Mathlib.Omega.{arith}

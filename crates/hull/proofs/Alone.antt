@@ -1,5 +1,4 @@
 -- A kind that moves bits of a alone into r: what it owes, over a only.
--- Assumes nothing.
 use mathlib.Core.Path.{_≡_, refl}
 use Prim.Native.Nat.{ℕ}
 use lib.Dec.{T}

@@ -1,5 +1,4 @@
 -- A rule over the words of a table: its narrowing is asked, and promises, what the rule's places in the table are asked and promise.
--- Assumes nothing.
 use mathlib.Core.Path.{_≡_, refl, fun-ext}
 use mathlib.Core.List.{List}
 use Prim.Native.Nat.{ℕ}

@@ -1,5 +1,4 @@
 -- One lane of the three: its columns as masks, its bounds without their lowest bit, and with one more bit below.
--- Assumes nothing.
 use mathlib.Core.Path.{_≡_, refl}
 use mathlib.Core.Bool.{Bool, true, false, Bool·beq}
 use Prim.Native.Nat.{ℕ, _/_}

@@ -1,5 +1,4 @@
 -- The eight kinds that go by columns, each from what a run of its automaton means: swept, or computed at once where the operands are fixed.
--- Assumes nothing.
 use mathlib.Core.Path.{_≡_, refl, sym, _∙_}
 use mathlib.Core.Logic.{_↔_, _≢_}
 use mathlib.Core.Bool.{Bool, true, false}

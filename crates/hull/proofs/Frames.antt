@@ -1,5 +1,4 @@
 -- A kind that goes by columns: its fits are the runs of its automaton between the bounds of its frame.
--- Assumes nothing.
 use mathlib.Core.Path.{_≡_, refl, sym, _∙_}
 use mathlib.Core.Logic.{_↔_}
 use mathlib.Core.Bool.{Bool}

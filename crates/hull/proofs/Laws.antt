@@ -1,5 +1,4 @@
 -- The three laws by which a rule is known above: an emptied bound is a conflict, narrowing loses no tight table, and what no narrowing changes is tight.
--- Assumes nothing.
 use mathlib.Core.Path.{_≡_, refl}
 use mathlib.Core.Bool.{Bool, true, false}
 use mathlib.Core.List.{List}

@@ -1,6 +1,5 @@
 -- A kind that only moves bits of its operands into r has a least and a greatest fit, if it has one: these are the hull.
 -- `get` is what r gets from a and b; `into-a` and `into-b` put a value of r back into an operand and leave its other bits as they were.
--- Assumes nothing.
 use mathlib.Core.Path.{_≡_, refl, sym, ap, _∙_}
 use Prim.Native.Nat.{ℕ}
 use lib.Dec.{T}

@@ -1,5 +1,4 @@
 -- A value that is there only if its place is used: what the frame of a kind and the bounds that are left have at r and s.
--- Assumes nothing.
 use mathlib.Core.Path.{_≡_, refl}
 use mathlib.Core.Bool.{Bool, true, false}
 use Prim.Native.Nat.{ℕ}

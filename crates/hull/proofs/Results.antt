@@ -1,5 +1,4 @@
 -- AND, OR, XOR, ADD and ITE: a run from state q means that r is what the kind computes of a and b; the state is the carry of ADD and the s of ITE.
--- Assumes nothing.
 use mathlib.Core.Path.{_≡_, refl, ap, ap₂, _∙_}
 use mathlib.Core.Logic.{_↔_}
 use mathlib.Core.Bool.{Bool, true, false, _&&_, _||_}

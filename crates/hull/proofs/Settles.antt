@@ -1,5 +1,4 @@
 -- A kind that computes has at most one fit where its operands are fixed: what it computes of them, if that lies between the bounds of r.
--- Assumes nothing.
 use mathlib.Core.Path.{_≡_, refl, sym, _∙_}
 use mathlib.Core.Logic.{_≢_}
 use mathlib.Core.Bool.{_&&_}

@@ -1,5 +1,4 @@
 -- The states that are left: those of the set from which there is a run. They say whether there is a fit, and they are the hull at s.
--- Assumes nothing.
 use mathlib.Core.Path.{_≡_}
 use mathlib.Core.Bool.{Bool, true, false, not, _&&_, _||_}
 use Prim.Native.Nat.{ℕ}

@@ -1,5 +1,4 @@
 -- A kind that goes by columns: what the sweep leaves of its frame is the hull of the fits at each place that it uses.
--- Assumes nothing.
 use mathlib.Core.Path.{_≡_}
 use mathlib.Core.Bool.{Bool, not, _&&_, _||_}
 use Prim.Native.Nat.{ℕ}

@@ -1,5 +1,4 @@
 -- The rule of the table of masks: the columns by which each kind goes from one state to another. It is one test, computed for all kinds.
--- Assumes nothing.
 use mathlib.Core.Path.{_≡_}
 use mathlib.Core.Bool.{Bool, true, false, not, _&&_, _||_, Bool·beq}
 use mathlib.Core.List.{[], _∷_}

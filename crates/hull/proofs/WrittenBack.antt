@@ -1,6 +1,5 @@
 -- Bounds that every tight table inside a table keeps to at a word, met with the bounds of that word on the way: no tight table is lost, and where
 -- they cross there is none.
--- Assumes nothing.
 use Prim.Native.Nat.{ℕ}
 use lib.Bits.{bitAnd, bitOr}
 use Rattle.words.specs.Bits.{_⊑_}

@@ -1,5 +1,4 @@
 -- A rule over the words of a table: the widths and the bounds that its narrowing is given.
--- Assumes nothing: these are definitions.
 use mathlib.Core.List.{List}
 use Prim.Native.Nat.{ℕ}
 use Rattle.words.specs.Table.{Table, at}

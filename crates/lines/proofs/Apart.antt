@@ -1,4 +1,4 @@
--- Digits are told apart from what follows them, so that a text begins with one number and is one list of numbers. Assumes nothing.
+-- Digits are told apart from what follows them, so that a text begins with one number and is one list of numbers.
 use mathlib.Core.Path.{_≡_, refl, sym, ap, subst, _∙_}
 use mathlib.Core.Bool.{Bool, true, false}
 use mathlib.Core.List.{List, [], _∷_, _++_, append-assoc}

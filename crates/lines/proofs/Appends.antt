@@ -1,4 +1,4 @@
--- Text appended piece by piece, and the numbers of a list piece by piece. Assumes nothing.
+-- Text appended piece by piece, and the numbers of a list piece by piece.
 use mathlib.Core.Path.{_≡_, refl, sym, ap, _∙_}
 use mathlib.Core.List.{List, [], _∷_, _++_, append-assoc, append-nil}
 use Prim.Native.Nat.{ℕ, _+_, _<_, _≤_}

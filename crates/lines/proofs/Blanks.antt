@@ -1,4 +1,4 @@
--- Where the blanks of a line stand: its name ends at the first, its word at the next one or at the end. Assumes nothing.
+-- Where the blanks of a line stand: its name ends at the first, its word at the next one or at the end.
 use mathlib.Core.Path.{_≡_, refl, sym, _∙_, ap}
 use mathlib.Core.Bool.{Bool, true, false}
 use mathlib.Core.List.{List, [], _∷_, _++_}

@@ -1,4 +1,4 @@
--- A number in decimal is that of its tenth, and its last digit. Assumes nothing.
+-- A number in decimal is that of its tenth, and its last digit.
 use mathlib.Core.Path.{_≡_, refl, sym, _∙_}
 use mathlib.Core.Bool.{Bool, true, false}
 use mathlib.Core.List.{[], _∷_, _++_}

@@ -1,4 +1,4 @@
--- Lists that agree so far. Assumes nothing.
+-- Lists that agree so far.
 use mathlib.Core.Path.{_≡_, refl, ap, _∙_}
 use mathlib.Core.Bool.{Bool, true, false}
 use mathlib.Core.List.{List, [], _++_, append-nil}

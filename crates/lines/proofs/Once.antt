@@ -1,4 +1,4 @@
--- Two results that the promise of a function on lists or of a line put allows are equal. Assumes nothing.
+-- Two results that the promise of a function on lists or of a line put allows are equal.
 use mathlib.Core.Path.{_≡_, refl, sym, ap, _∙_}
 use mathlib.Core.Bool.{Bool, true, false}
 use mathlib.Core.List.{List}

@@ -1,4 +1,4 @@
--- A line read is the line that its bytes are, and there is only one reading of it. Assumes nothing.
+-- A line read is the line that its bytes are, and there is only one reading of it.
 use mathlib.Core.Path.{_≡_, refl, sym, _∙_, ap}
 use mathlib.Core.List.{List, [], _∷_, _++_, append-nil}
 use Prim.Native.Nat.{ℕ, _+_, _-_, _≤_}

@@ -1,4 +1,4 @@
--- What one turn of each loop that puts text comes to. Assumes nothing.
+-- What one turn of each loop that puts text comes to.
 use mathlib.Core.Path.{_≡_, _∙_, ap}
 use mathlib.Core.Bool.{true, false}
 use mathlib.Core.List.{List, [], _∷_, _++_, append-assoc}

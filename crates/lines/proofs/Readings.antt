@@ -1,4 +1,4 @@
--- What one turn of each loop that reads comes to, and why it stops where it does. Assumes nothing.
+-- What one turn of each loop that reads comes to, and why it stops where it does.
 use mathlib.Core.Path.{_≡_, refl, sym, subst, _∙_, ap}
 use mathlib.Core.List.{List, [], _∷_, _++_, append-assoc, append-nil}
 use Prim.Native.Nat.{ℕ, suc, _+_, _*_, _^_, _≤_, _<_}

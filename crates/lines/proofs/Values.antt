@@ -1,4 +1,4 @@
--- The value of digits: that of a number in decimal is the number, and a number but 0 begins with no 0. Assumes nothing.
+-- The value of digits: that of a number in decimal is the number, and a number but 0 begins with no 0.
 use mathlib.Core.Path.{_≡_, refl, sym, _∙_}
 use mathlib.Core.Bool.{Bool, true, false}
 use mathlib.Core.List.{List, [], _∷_, _++_}

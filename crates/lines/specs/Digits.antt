@@ -1,4 +1,4 @@
--- Digits and blanks, as bytes, and numbers below 2^64. Assumes nothing: these are definitions.
+-- Digits and blanks, as bytes, and numbers below 2^64.
 use mathlib.Core.Path.{_≡_}
 use mathlib.Core.List.{List, [], _∷_}
 use Prim.Native.Nat.{ℕ, _+_, _-_, _*_, _^_, _≤_, _<_, min}

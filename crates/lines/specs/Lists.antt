@@ -1,4 +1,4 @@
--- What the functions on lists of numbers promise. Assumes nothing: these are definitions.
+-- What the functions on lists of numbers promise.
 use mathlib.Core.Path.{_≡_}
 use mathlib.Core.Bool.{Bool, true, false}
 use mathlib.Core.List.{List}

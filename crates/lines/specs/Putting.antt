@@ -1,4 +1,4 @@
--- What putting text into lent bytes promises. Assumes nothing: these are definitions.
+-- What putting text into lent bytes promises.
 use mathlib.Core.Path.{_≡_}
 use mathlib.Core.Bool.{Bool, true, false}
 use mathlib.Core.List.{List, [], _∷_, _++_}

@@ -1,5 +1,4 @@
 -- What reading promises: what was read is the text, put as `lineOf` and `spaced` put it; what is refused is no such text.
--- Assumes nothing: these are definitions.
 use mathlib.Core.Path.{_≡_}
 use mathlib.Core.List.{List, _++_}
 use Prim.Native.Nat.{ℕ, _+_, _^_, _≤_, _<_}

@@ -1,4 +1,4 @@
--- The text of numbers and of lines, as bytes. Assumes nothing: these are definitions.
+-- The text of numbers and of lines, as bytes.
 use mathlib.Core.Bool.{cond}
 use mathlib.Core.List.{List, [], _∷_, _++_}
 use Prim.Native.Nat.{ℕ, zero, suc, _+_, _/_, _%_}

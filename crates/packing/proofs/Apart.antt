@@ -1,5 +1,4 @@
 -- An answer's number taken apart gives its parts, and one answer has one number.
--- Assumes nothing.
 use mathlib.Core.Path.{_≡_, sym, ap, _∙_}
 use Prim.Native.Nat.{ℕ, _/_, _%_}
 use native.Mathlib.Omega.{arith}

@@ -1,5 +1,4 @@
 -- Bytes that are 0, one more a turn; records with their gaps, one more a turn.
--- Assumes nothing.
 use mathlib.Core.Path.{_≡_}
 use mathlib.Core.List.{List}
 use Prim.Native.Nat.{ℕ, suc, _+_, _*_, _<_, _≤_}

@@ -1,5 +1,4 @@
 -- The problem in a proper file, judged: its refusal, or its words and rules as they are stored.
--- Assumes nothing.
 use mathlib.Core.Path.{_≡_, refl, sym, _∙_}
 use mathlib.Core.List.{List}
 use Prim.Native.Nat.{ℕ}

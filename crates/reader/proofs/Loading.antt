@@ -1,5 +1,4 @@
 -- A number loaded from its bytes, the highest first: one byte more a turn.
--- Assumes nothing.
 use mathlib.Core.Path.{_≡_}
 use mathlib.Core.List.{List}
 use Prim.Native.Nat.{ℕ, suc, _+_, _-_, _*_, _^_, _<_, _≤_}

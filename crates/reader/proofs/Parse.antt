@@ -1,5 +1,4 @@
 -- The tests of one block tell which block of the three it is, or that it is none.
--- Assumes nothing.
 use mathlib.Core.Path.{_≡_, sym, _∙_, subst}
 use mathlib.Core.List.{List}
 use Prim.Native.Nat.{ℕ}

@@ -1,5 +1,4 @@
 -- The machine's step by what a block is, and where it is stuck.
--- Assumes nothing.
 use mathlib.Core.Path.{_≡_}
 use mathlib.Core.List.{List}
 use Prim.Native.Nat.{ℕ, _+_, _%_, _≤_}

@@ -1,5 +1,4 @@
 -- One block after the other: what the machine's step makes of the file, and what the scan of all blocks answers.
--- Assumes nothing.
 use mathlib.Core.Path.{_≡_, refl, sym, _∙_, subst}
 use mathlib.Core.List.{List}
 use Prim.Native.Nat.{ℕ, zero, suc, _+_, _-_, _*_, _/_, _%_, _≤_}

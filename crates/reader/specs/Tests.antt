@@ -1,5 +1,4 @@
 -- What the tests of one block tell.
--- Assumes nothing: these are definitions.
 use mathlib.Core.List.{List}
 use Prim.Native.Nat.{ℕ, _+_, _*_, _<_}
 use Rattle.blocks.specs.Edition.{edition1}

@@ -1,5 +1,4 @@
 -- What a rule says of a bit, computed by going through every fit: every question about a legal rule has an answer.
--- Assumes nothing.
 use mathlib.Core.Path.{_≡_, refl, sym, ap, _∙_}
 use mathlib.Core.Bool.{Bool}
 use mathlib.Core.List.{List, [], _∷_}

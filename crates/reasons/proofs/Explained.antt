@@ -1,5 +1,4 @@
 -- Explanations computed from the definitions by going through every fit: each question about a legal rule has one, and this is it.
--- Assumes nothing.
 use mathlib.Core.Path.{_≡_, refl, subst}
 use mathlib.Core.Logic.{_≢_}
 use mathlib.Core.Bool.{Bool, true, false}

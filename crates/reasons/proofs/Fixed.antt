@@ -1,5 +1,4 @@
 -- The bits gone through for a reason are the fixed bits of the rule's places, all of them and no other; and so each entry is one of them.
--- Assumes nothing.
 use mathlib.Core.Path.{_≡_, refl}
 use mathlib.Core.Logic.{_⊎_, inl, inr}
 use mathlib.Core.Bool.{Bool, true, false, cond, _||_}

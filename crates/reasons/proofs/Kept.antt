@@ -1,6 +1,5 @@
 -- What a reason is: its bits alone give the same answer, and with any one of them treated as open too the answer does not stay.
 -- Fits only become more as bits are treated as open, so an answer that has changed does not come back.
--- Assumes nothing.
 use mathlib.Core.Path.{_≡_, refl, sym, ap, _∙_}
 use mathlib.Core.Logic.{_⊎_, inl, inr}
 use mathlib.Core.Bool.{Bool, true, false, cond, _||_}

@@ -1,5 +1,4 @@
 -- A reason is irreducible: no list with some of its entries, but not all, gives the answer. (A shorter list of other bits may.)
--- Assumes nothing.
 use mathlib.Core.Path.{_≡_, refl}
 use mathlib.Core.Bool.{Bool, true, false, cond, _||_}
 use mathlib.Core.List.{List}

@@ -1,5 +1,4 @@
 -- What a reason lists: ascending entries, each below 256, at most 193 of them.
--- Assumes nothing.
 use mathlib.Core.List.{List, [], _∷_}
 use Prim.Native.Nat.{ℕ, zero, suc, _≤_, _<_}
 use native.Mathlib.Nat.{le-trans}

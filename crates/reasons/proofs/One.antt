@@ -1,5 +1,4 @@
 -- An explanation is one: two answers, reasons or explanations that are allowed of the same question are equal.
--- Assumes nothing.
 use mathlib.Core.Path.{_≡_, refl, sym, ap, _∙_}
 use mathlib.Core.List.{List, _∷_}
 use Prim.Native.Nat.{ℕ}

@@ -1,5 +1,4 @@
 -- A bit treated as open at one place: the bounds there get wider, the bounds of the other places stay, and widths are kept to.
--- Assumes nothing.
 use mathlib.Core.Path.{_≡_, refl, sym, ap, _∙_}
 use mathlib.Core.Logic.{_≢_, _⊎_, inl, inr}
 use mathlib.Core.Bool.{Bool, true, false, cond}

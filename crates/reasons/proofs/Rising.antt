@@ -1,5 +1,4 @@
 -- The fixed bits of a rule's places are listed in rising order of their entries, each below the width of its place, and are at most 193.
--- Assumes nothing.
 use mathlib.Core.Path.{_≡_, refl}
 use mathlib.Core.Bool.{Bool, true, false, cond}
 use mathlib.Core.List.{List, [], _∷_, _++_, append-nil}

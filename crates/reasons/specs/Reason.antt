@@ -1,6 +1,5 @@
 -- The reason for an answer: the fixed bits of a rule's places that remain when each is dropped in turn where the answer stays the same.
 -- A dropped bit is treated as open at its place only, so all this is over a rule's own places; a table comes in by `shape w ρ` and `span t ρ`.
--- Assumes nothing: these are definitions.
 use mathlib.Core.Path.{_≡_}
 use mathlib.Core.Bool.{Bool, cond}
 use mathlib.Core.Logic.{_≢_}

@@ -1,5 +1,4 @@
 -- What a rule says of one bit at one place: CONFLICT if it has no fit, FORCED with its value if all fits agree on the bit, else FREE.
--- Assumes nothing: these are definitions.
 use mathlib.Core.Path.{_≡_}
 use mathlib.Core.Logic.{_≢_}
 use Prim.Native.Nat.{ℕ}

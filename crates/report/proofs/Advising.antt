@@ -1,4 +1,4 @@
--- What reading a file comes to, as the report on it, and what is lent too short. Assumes nothing.
+-- What reading a file comes to, as the report on it, and what is lent too short.
 use mathlib.Core.Path.{_≡_, refl}
 use mathlib.Core.List.{List}
 use Prim.Native.Nat.{ℕ, _*_, _≤_, _<_}

@@ -1,4 +1,4 @@
--- A value in binary: how many digits, which, and one more of them put down. Assumes nothing.
+-- A value in binary: how many digits, which, and one more of them put down.
 use mathlib.Core.Path.{_≡_, refl, ap, _∙_}
 use mathlib.Core.List.{List}
 use Prim.Native.Nat.{ℕ, zero, suc, _+_, _-_, _/_, _%_, _^_, _≤_, _<_}

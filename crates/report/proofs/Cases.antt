@@ -1,4 +1,4 @@
--- Cases G and H print as the paper has them, byte by byte. Assumes nothing.
+-- Cases G and H print as the paper has them, byte by byte.
 use mathlib.Core.Path.{_≡_, refl}
 use mathlib.Core.List.{[], _∷_}
 use Rattle.words.specs.Bits.{bit}

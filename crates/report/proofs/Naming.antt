@@ -1,4 +1,4 @@
--- What the trials for a cause come to, as the report on a problem without settings. Assumes nothing.
+-- What the trials for a cause come to, as the report on a problem without settings.
 use mathlib.Core.Path.{_≡_, _∙_}
 use mathlib.Core.List.{List}
 use Prim.Native.Nat.{ℕ, _≤_}

@@ -1,5 +1,4 @@
 -- Two results that the promise of `advise` allows are equal: the answer, every lent byte, and every number of work memory.
--- Assumes nothing.
 use mathlib.Core.Path.{_≡_, refl}
 use mathlib.Core.List.{List}
 use Prim.Native.Nat.{ℕ}

@@ -1,4 +1,4 @@
--- Lines put one after the other into lent bytes. Assumes nothing.
+-- Lines put one after the other into lent bytes.
 use mathlib.Core.Path.{_≡_, refl, sym, ap, _∙_, subst}
 use mathlib.Core.List.{List, [], _∷_, _++_, map, append-assoc, append-nil}
 use Prim.Native.Nat.{ℕ, _+_, _≤_, _<_}

@@ -1,4 +1,4 @@
--- The lines of each report, put one after the other, are the report. Assumes nothing.
+-- The lines of each report, put one after the other, are the report.
 use mathlib.Core.Path.{_≡_, sym, ap, _∙_}
 use mathlib.Core.List.{List, [], _∷_, _++_, map, append-assoc, append-nil}
 use Prim.Native.Nat.{ℕ, _≤_}

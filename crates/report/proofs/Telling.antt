@@ -1,4 +1,4 @@
--- What the search of a problem comes to, as the report on it. Assumes nothing.
+-- What the search of a problem comes to, as the report on it.
 use mathlib.Core.Path.{_≡_, ap, _∙_}
 use mathlib.Core.List.{List, [], _∷_, _++_}
 use Prim.Native.Nat.{ℕ, _<_}

@@ -1,4 +1,4 @@
--- What putting a report into lent bytes promises, and what is asked for. Assumes nothing: these are definitions.
+-- What putting a report into lent bytes promises, and what is asked for.
 use mathlib.Core.Path.{_≡_}
 use mathlib.Core.List.{List, _++_}
 use Prim.Native.Nat.{ℕ, _≤_, _<_}

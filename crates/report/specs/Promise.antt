@@ -1,5 +1,4 @@
 -- What the call `advise` promises: which report a file gets, and every lent byte and number afterwards.
--- Assumes nothing: these are definitions.
 use mathlib.Core.Path.{_≡_}
 use mathlib.Core.List.{List}
 use Prim.Native.Nat.{ℕ, _≤_}

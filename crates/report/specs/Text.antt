@@ -1,5 +1,5 @@
 -- What the adviser program prints, as bytes: the lines of each answer. Items on a line are parted by one blank, numbers are decimal, and each
--- line ends with byte 10. Assumes nothing: these are definitions.
+-- line ends with byte 10.
 use mathlib.Core.List.{List, [], _∷_, _++_, map}
 use Prim.Native.Nat.{ℕ, zero, suc, _+_}
 use lib.ListN.{length}

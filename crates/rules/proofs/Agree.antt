@@ -1,5 +1,4 @@
 -- A table without open bits is tight just where its values make all rules hold; and tight tables under more rules, or under the same in another order.
--- Assumes nothing.
 use mathlib.Core.Path.{_≡_}
 use mathlib.Core.List.{List}
 use Prim.Native.Nat.{ℕ, _<_}

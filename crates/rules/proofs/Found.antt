@@ -1,5 +1,4 @@
 -- What a step of tightening has found is so: the table is tight, or a narrower one with fewer open bits holds all that is tight, or there is a conflict.
--- Assumes nothing.
 use mathlib.Core.Path.{_≡_, refl}
 use mathlib.Core.Bool.{Bool, true, false, not, _&&_, _||_}
 use mathlib.Core.List.{List, [], _∷_}

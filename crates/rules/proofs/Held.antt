@@ -1,5 +1,4 @@
 -- What a narrowing may do on the way to the widest tight table: it loses no tight table.
--- Assumes nothing.
 use mathlib.Core.Path.{sym, _∙_}
 use mathlib.Core.List.{List}
 use Prim.Native.Nat.{ℕ}

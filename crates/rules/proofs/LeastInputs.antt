@@ -1,5 +1,4 @@
 -- There is a least number of words that are inputs: whether a word follows from those before it can be decided.
--- Assumes nothing.
 use mathlib.Core.Path.{_≡_, refl, subst, ap}
 use mathlib.Core.Logic.{_⊎_, inl, inr}
 use mathlib.Core.Bool.{Bool, true, false}

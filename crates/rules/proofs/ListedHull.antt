@@ -1,5 +1,4 @@
 -- The hull of the fits of a rule, from the list of them: the bits that all have, and the bits that any has.
--- Assumes nothing.
 use mathlib.Core.Path.{_≡_, refl, ap}
 use mathlib.Core.List.{List, [], _∷_}
 use Prim.Native.Nat.{ℕ, zero, suc, _^_, _<_}

@@ -1,5 +1,4 @@
 -- All fits of a rule, listed: the operands go through the values between their bounds, r is computed, and what is no fit is left out.
--- Assumes nothing.
 use mathlib.Core.Path.{_≡_, _∙_}
 use mathlib.Core.Bool.{Bool, true, false}
 use mathlib.Core.List.{List, [], _∷_, map}

@@ -1,5 +1,4 @@
 -- Some element of a list, every element of a list, and the lists that an enumeration is made of.
--- Assumes nothing.
 use mathlib.Core.Bool.{Bool, true, false}
 use mathlib.Core.List.{List, [], _∷_, _++_, map}
 use lib.Dec.{T}

@@ -1,5 +1,4 @@
 -- A table with new bounds for one word, inside those that it had: it lies inside the table, and it has fewer open bits unless the bounds are the same.
--- Assumes nothing.
 use mathlib.Core.Path.{_≡_, sym, ap, _∙_}
 use mathlib.Core.Logic.{_⊎_, inl, inr}
 use mathlib.Core.List.{List, [], _∷_}

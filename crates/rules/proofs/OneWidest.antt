@@ -1,5 +1,4 @@
 -- The widest tight table is one, and is not there in a conflict; a notion of tight that says the same gives the same. For any notion of tight.
--- Assumes nothing.
 use mathlib.Core.Path.{_≡_}
 use Rattle.words.specs.Table.{Table, Inside}
 use Rattle.words.proofs.Tables.{inside-antisym}

@@ -1,6 +1,5 @@
 -- Each field of a rule is a place of its own, also where one word stands twice: a fit may give the two places different values.
 -- So a table with an open bit in word i is tight for "word i is not word i", though that rule holds for no values.
--- Assumes nothing.
 use mathlib.Core.Path.{_≡_, refl, sym, ap}
 use mathlib.Core.Logic.{_≢_}
 use mathlib.Core.List.{List}

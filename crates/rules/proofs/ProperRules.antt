@@ -1,5 +1,4 @@
 -- At the places of a proper rule over a proper table stand proper widths and bounds, which fit.
--- Assumes nothing.
 use mathlib.Core.List.{List}
 use Prim.Native.Nat.{ℕ, _<_}
 use Rattle.words.specs.Table.{Table}

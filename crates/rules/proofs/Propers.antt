@@ -1,5 +1,4 @@
 -- Proper tables: a proper table lies inside itself, a table inside a proper one is proper, and it has no more open bits than its words have bits.
--- Assumes nothing.
 use mathlib.Core.Path.{refl, sym, _∙_}
 use mathlib.Core.List.{List}
 use Prim.Native.Nat.{ℕ, zero, suc, _+_, _≤_}

@@ -1,6 +1,5 @@
 -- The meaning of the fourteen kinds, `result` and `Compares`, is SMT-LIB's own: what a rule computes is the number of the bit-vector that SMT-LIB
 -- denotes for the bits of its operands, and it compares as SMT-LIB does.
--- Assumes nothing.
 use mathlib.Core.Path.{_≡_, sym, ap, _∙_}
 use mathlib.Core.Logic.{_⊎_, inl, inr, _↔_}
 use mathlib.Core.Bool.{Bool, true, false}

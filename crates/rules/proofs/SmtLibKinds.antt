@@ -1,5 +1,4 @@
 -- Each computing kind is SMT-LIB's own, over what that kind needs: no law asks for a place that the kind does not use, and none for a bound on k.
--- Assumes nothing.
 use mathlib.Core.Path.{_≡_, refl, sym, ap, _∙_}
 use mathlib.Core.Logic.{_⊎_, inl, inr}
 use Prim.Native.Nat.{ℕ, zero, suc, _+_, _-_, _*_, _/_, _%_, _^_, _≤_, _<_, min, max}

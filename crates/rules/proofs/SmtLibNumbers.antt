@@ -1,5 +1,4 @@
 -- Bit-vectors as numbers and back: `nat2bv` gives the one bit-vector that SMT-LIB asks for, and a number's own bits are the bit-vector of it.
--- Assumes nothing.
 use mathlib.Core.Path.{_≡_, refl, sym, ap, _∙_}
 use Prim.Native.Nat.{ℕ, zero, suc, _/_, _%_, _^_, _<_}
 use native.Mathlib.Nat.{mod-mod, mod-one, mod-eq-of-lt, add-comm, pow-suc}

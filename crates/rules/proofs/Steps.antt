@@ -2,7 +2,6 @@
 -- A step goes through the rules in order, and through the places r, a, b, s of each. The first rule without a fit is a conflict; the first place in use whose
 -- hull is not its word's bounds narrows that word; where there is neither, the table is tight. Each narrowing fixes an open bit, so one step more than the
 -- words have bits is enough.
--- Assumes nothing: these are definitions.
 use mathlib.Core.Bool.{Bool, true, false, not, _&&_, _||_}
 use mathlib.Core.List.{List, [], _∷_}
 use Prim.Native.Nat.{ℕ, zero, suc}

@@ -1,5 +1,4 @@
 -- The meaning of a rule speaks of the places that it uses and of no other, and a kind that uses r computes it.
--- Assumes nothing.
 use mathlib.Core.Path.{_≡_, sym, _∙_}
 use mathlib.Core.Logic.{_≢_}
 use Prim.Native.Nat.{ℕ}

@@ -1,5 +1,4 @@
 -- Tightening ends with the widest tight table or with a conflict; so every proper table has the one or the other.
--- Assumes nothing.
 use mathlib.Core.Logic.{_⊎_, inl, inr}
 use mathlib.Core.List.{List, [], _∷_}
 use Prim.Native.Nat.{ℕ, zero, suc, _<_}

@@ -1,6 +1,5 @@
 -- The fits of a rule over its own four places, and the hull of the fits.
 -- Each field of a rule is a place of its own, so nothing here speaks of words: a table comes in by `Tight`.
--- Assumes nothing: these are definitions.
 use mathlib.Core.Path.{_≡_}
 use Prim.Native.Nat.{ℕ}
 use lib.Dec.{T}

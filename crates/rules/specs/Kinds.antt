@@ -1,5 +1,4 @@
 -- The places of a rule, and the fourteen kinds by their numbers.
--- Assumes nothing: these are definitions.
 use mathlib.Core.List.{[], _∷_}
 use Prim.Native.Nat.{ℕ, _-_}
 use lib.ListN.{getD}

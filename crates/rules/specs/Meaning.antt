@@ -1,5 +1,4 @@
 -- What each kind means, through the numbers of its places. That this is SMT-LIB's meaning is shown against `SmtLib`.
--- Assumes nothing: these are definitions.
 use mathlib.Core.Path.{_≡_}
 use mathlib.Core.Logic.{_≢_}
 use Prim.Native.Nat.{ℕ, zero, suc, _+_, _-_, _*_, _/_, _%_, _^_, _≤_, _<_}

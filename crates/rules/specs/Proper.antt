@@ -1,5 +1,4 @@
 -- A proper table: widths and bounds as "Words" says.
--- Assumes nothing: these are definitions.
 use mathlib.Core.Path.{_≡_}
 use mathlib.Core.List.{List}
 use Prim.Native.Nat.{ℕ, _<_}

@@ -1,5 +1,4 @@
 -- A proper problem: its table is as "Words" says, each of its rules as "Rules" says, and it has at most 32 words and 252 rules.
--- Assumes nothing: these are definitions.
 use mathlib.Core.Path.{_≡_}
 use mathlib.Core.Bool.{Bool, true, false}
 use mathlib.Core.List.{List}

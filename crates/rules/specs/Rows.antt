@@ -1,5 +1,4 @@
 -- The fixed table of fourteen rows: the places that each kind uses, and how the widths there, and k, must fit.
--- Assumes nothing: these are definitions.
 use mathlib.Core.Path.{_≡_}
 use mathlib.Core.Bool.{Bool, true, false}
 use Prim.Native.Nat.{ℕ, _+_, _≤_, _<_}

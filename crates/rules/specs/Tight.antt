@@ -1,5 +1,5 @@
--- Rules over the words of a table: when a table is tight, and when all rules hold.
--- Assumes nothing: these are definitions.
+-- To be believed: rules over the words of a table.
+-- When a table is tight, and when all rules hold.
 use mathlib.Core.Path.{_≡_}
 use mathlib.Core.List.{List}
 use Prim.Native.Nat.{ℕ, _<_}

@@ -1,6 +1,5 @@
 -- What tightening gives: the widest tight table inside a table, or CONFLICT where there is none.
 -- `Tight` may be any property of tables, so that these words do not change with what a kind is asked for.
--- Assumes nothing: these are definitions.
 use Rattle.words.specs.Table.{Table, Inside}
 
 -- u is the widest tight table inside t

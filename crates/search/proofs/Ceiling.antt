@@ -1,5 +1,4 @@
 -- The ceiling on guesses, where the guess always falls on one of the first m words: 2^B - 1, B being their open bits after the first tightening.
--- Assumes nothing.
 use mathlib.Core.Path.{ap, subst}
 use mathlib.Core.Logic.{_≢_}
 use Prim.Native.Nat.{ℕ, zero, suc, _+_, _^_, _≤_, _<_}

@@ -1,5 +1,4 @@
 -- The open bits of the table fall at every call of the search, for the whole table and for the words that the guess falls on.
--- Assumes nothing.
 use mathlib.Core.Logic.{inl, inr}
 use Prim.Native.Nat.{ℕ, _<_}
 use native.Mathlib.Omega.{arith}

@@ -1,5 +1,4 @@
 -- Where the later words follow from the inputs, the guess falls on an input; and with rules added, the inputs stay inputs and have no more open bits.
--- Assumes nothing.
 use mathlib.Core.Logic.{_⊎_, inl, inr}
 use mathlib.Core.List.{List}
 use Prim.Native.Nat.{ℕ, _≤_, _<_}

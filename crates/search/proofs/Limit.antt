@@ -1,5 +1,4 @@
 -- The limit decides between an answer and giving up, and nothing else: an answer has one count at every limit that reaches it.
--- Assumes nothing.
 use mathlib.Core.Logic.{_≢_}
 use mathlib.Core.List.{List}
 use Prim.Native.Nat.{ℕ, _≤_}

@@ -1,6 +1,5 @@
 -- Each problem has one number G, at any limit the search has exactly one outcome, and GAVE UP means that one more guess was needed.
 -- For any tightening that is right.
--- Assumes nothing.
 use mathlib.Core.Path.{_≡_, refl, sym, _∙_}
 use mathlib.Core.Logic.{_≢_, _↔_, _⊎_, inl, inr}
 use mathlib.Core.List.{List}

@@ -1,5 +1,4 @@
 -- Notions of tight that say the same give the same search; so the order of the rules, and a rule listed twice, change no tight table and no search.
--- Assumes nothing.
 use mathlib.Core.List.{List}
 use Prim.Native.Nat.{ℕ}
 use Rattle.words.specs.Table.{Table}

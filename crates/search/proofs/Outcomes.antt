@@ -1,5 +1,4 @@
 -- The three outcomes are never one another.
--- Assumes nothing.
 use mathlib.Core.Path.{_≡_}
 use mathlib.Core.Logic.{_≢_}
 use mathlib.Core.List.{List}

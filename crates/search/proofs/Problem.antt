@@ -1,5 +1,4 @@
 -- What the search promises of a problem: widths w, rules rs, a proper table t. The theorems behind demands 2 and 3.
--- Assumes nothing.
 use mathlib.Core.Path.{_≡_}
 use mathlib.Core.Logic.{_≢_, _⊎_, inl, inr, _↔_}
 use mathlib.Core.List.{List}

@@ -1,5 +1,4 @@
 -- What an outcome says of the settings: what is found is the first of them, and where none is said there are none.
--- Assumes nothing.
 use mathlib.Core.Path.{_≡_}
 use mathlib.Core.Logic.{_⊎_, inl, inr, _↔_}
 use mathlib.Core.List.{List}

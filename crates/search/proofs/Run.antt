@@ -1,5 +1,4 @@
 -- The search, computed with any tightening that is right: it always comes to an outcome, at every limit.
--- Assumes nothing.
 use mathlib.Core.Path.{_≡_, refl}
 use mathlib.Core.Bool.{Bool, true, false}
 use Prim.Native.Nat.{ℕ, zero, suc, _^_, _≤_, _<_}

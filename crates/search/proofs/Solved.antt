@@ -1,5 +1,4 @@
 -- The search of a problem, computed from the definitions by going through every fit: slow, and for every proper table right.
--- Assumes nothing.
 use mathlib.Core.List.{List}
 use Prim.Native.Nat.{ℕ, suc, _^_, _≤_, _<_}
 use native.Mathlib.Nat.{lt-of-lt-of-le}

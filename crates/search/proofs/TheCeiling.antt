@@ -1,5 +1,4 @@
 -- The ceiling of a problem: there is one, no search makes more guesses, a limit that reaches it never gives up, and rules added never raise it.
--- Assumes nothing.
 use mathlib.Core.Path.{_≡_}
 use mathlib.Core.Logic.{_≢_}
 use mathlib.Core.List.{List}

@@ -1,5 +1,4 @@
 -- The outcome of a search is one.
--- Assumes nothing.
 use mathlib.Core.Path.{_≡_, sym}
 use Prim.Native.Nat.{ℕ, suc}
 use Rattle.words.specs.Table.{Table, with0, with1}

@@ -1,5 +1,4 @@
 -- The ceiling of a problem.
--- Assumes nothing: these are definitions.
 use mathlib.Core.Path.{_≡_}
 use mathlib.Core.List.{List}
 use Prim.Native.Nat.{ℕ, suc, _^_, _≤_}

@@ -1,6 +1,5 @@
 -- The published search, as a relation between a table, the guesses made before it, and what it comes to.
 -- `Tight` may be any property of tables: neither the kinds, nor how tightening is done, nor the order of rules enters here.
--- Assumes nothing: these are definitions.
 use mathlib.Core.List.{List}
 use Prim.Native.Nat.{ℕ, suc, _≤_, _<_}
 use Rattle.words.specs.Table.{Table, Guess, Done, with0, with1}

@@ -1,6 +1,5 @@
 -- Settings of a table, and the first of them in word order.
 -- `Holds` may be any property of values; a problem's is that all its rules hold.
--- Assumes nothing: these are definitions.
 use mathlib.Core.Path.{_≡_}
 use mathlib.Core.Logic.{_⊎_}
 use mathlib.Core.List.{List}

@@ -1,5 +1,4 @@
 -- What stays in lent memory while a table is searched: the list of rules, the copy, the trail.
--- Assumes nothing.
 use mathlib.Core.Path.{_≡_, ap, _∙_}
 use mathlib.Core.Logic.{inl, inr}
 use mathlib.Core.List.{List}

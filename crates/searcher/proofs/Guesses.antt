@@ -1,5 +1,4 @@
 -- The guess as the code makes it is the published one: its word, its bit, and the two values.
--- Assumes nothing.
 use mathlib.Core.Path.{_≡_, sym, ap, _∙_}
 use mathlib.Core.Logic.{_≢_, inr}
 use mathlib.Core.List.{List}

@@ -1,5 +1,4 @@
 -- The two values of a guess, put together: what each search asks, that the open bits fall, and what comes of both.
--- Assumes nothing.
 use mathlib.Core.Path.{_≡_, refl, sym, ap, subst, _∙_}
 use mathlib.Core.Logic.{_≢_}
 use mathlib.Core.List.{List}

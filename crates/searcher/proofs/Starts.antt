@@ -1,5 +1,4 @@
 -- The search of a problem's own table: the table loaded, the copy made of it, and room on the trail for all its open bits.
--- Assumes nothing.
 use mathlib.Core.Path.{_≡_, sym, ap, subst, _∙_}
 use mathlib.Core.Logic.{inl}
 use mathlib.Core.List.{List}

@@ -1,5 +1,4 @@
 -- The copy in lent memory as a table, and tables that stand in memory number by number.
--- Assumes nothing.
 use mathlib.Core.Path.{_≡_, refl, sym, _∙_}
 use mathlib.Core.List.{List}
 use Prim.Native.Nat.{ℕ, _+_, _≤_, _<_}

@@ -1,5 +1,4 @@
 -- The search of a problem's own table, for the rules listed in lent memory.
--- Assumes nothing: these are definitions.
 use mathlib.Core.Path.{_≡_}
 use mathlib.Core.List.{List}
 use Prim.Native.Nat.{ℕ, _≤_, _<_}

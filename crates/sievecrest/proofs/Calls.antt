@@ -1,5 +1,4 @@
 -- The calls for C and Rust: two results that one promise allows are equal, number and lent memory.
--- Assumes nothing.
 use mathlib.Core.Path.{_≡_, sym, _∙_}
 use mathlib.Core.List.{List}
 use Prim.Native.Nat.{ℕ}

@@ -1,5 +1,4 @@
 -- Demand 1 of each call that alters lent memory: a refusal has a number below 32 and a place that is there, and leaves everything lent as it was.
--- Assumes nothing.
 use mathlib.Core.Path.{_≡_, refl, subst}
 use mathlib.Core.Bool.{Bool, true, false}
 use mathlib.Core.List.{List}

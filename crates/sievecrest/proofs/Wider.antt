@@ -1,5 +1,4 @@
 -- Only the first bytes that were lent are passed on to `advise`: what it promises of them it promises of all.
--- Assumes nothing.
 use mathlib.Core.Path.{_≡_, sym, ap, _∙_}
 use mathlib.Core.List.{List, _++_, append-assoc}
 use Prim.Native.Nat.{ℕ, min, _≤_}

@@ -1,5 +1,4 @@
 -- The call's own steps: what is not refused is a proper problem with room, and what the search comes to is the answer.
--- Assumes nothing.
 use mathlib.Core.Path.{_≡_, sym, _∙_}
 use mathlib.Core.List.{List}
 use Prim.Native.Nat.{ℕ, _≤_, _<_}

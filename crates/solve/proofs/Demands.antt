@@ -1,5 +1,4 @@
 -- The user's demands, as theorems about the call `solve` itself: whatever it promises of an answer x, a model and work memory.
--- Assumes nothing.
 use mathlib.Core.Path.{_≡_, refl, sym, ap, subst, _∙_}
 use mathlib.Core.List.{List}
 use Prim.Native.Nat.{ℕ, suc, _≤_, _<_}

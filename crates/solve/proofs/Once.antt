@@ -1,5 +1,4 @@
 -- Two results that the promise of `solve` allows are equal: the answer, every number of the model, and every number of work memory.
--- Assumes nothing.
 use mathlib.Core.Path.{_≡_, refl, ap}
 use mathlib.Core.List.{List}
 use Prim.Native.Nat.{ℕ}

@@ -1,6 +1,5 @@
 -- Solvers that the promise of `solve` shuts out, each by a problem where it does not allow their answer: one that refuses everything, that answers
 -- GAVE UP or NONE each time, that leaves the model untouched, that obeys the first rule alone, that invents its count.
--- Assumes nothing.
 use mathlib.Core.Path.{_≡_, refl, sym, ap, _∙_}
 use mathlib.Core.Logic.{_≢_}
 use mathlib.Core.List.{List, [], _∷_}

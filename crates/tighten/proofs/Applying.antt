@@ -1,5 +1,4 @@
 -- One rule applied to the table in memory: what its narrowing leaves, met with the bounds of its words, is a step of tightening for that rule.
--- Assumes nothing.
 use mathlib.Core.Path.{_≡_, refl, sym}
 use mathlib.Core.Bool.{true, false}
 use mathlib.Core.List.{List}

@@ -1,5 +1,4 @@
 -- The loops over work memory and words: what one more turn adds.
--- Assumes nothing.
 use mathlib.Core.Path.{_≡_, refl, _∙_}
 use mathlib.Core.Logic.{_≢_}
 use mathlib.Core.List.{List}

@@ -1,5 +1,4 @@
 -- The call's own steps: the table loaded is the problem's, the rules listed are all of them, and the words with new bounds are the words.
--- Assumes nothing.
 use mathlib.Core.Path.{_≡_, refl, sym, ap, _∙_}
 use mathlib.Core.Bool.{Bool, true, false}
 use mathlib.Core.List.{List}

@@ -1,5 +1,4 @@
 -- Bounds in memory met with others: no table with P is lost, where they keep to these bounds, and a crossing means that there is none.
--- Assumes nothing.
 use mathlib.Core.Path.{_≡_, refl, sym, ap, ap₂, _∙_, subst}
 use mathlib.Core.Bool.{Bool, true, false, not, _&&_, _||_}
 use mathlib.Core.List.{List}

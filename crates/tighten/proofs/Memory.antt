@@ -1,5 +1,4 @@
 -- The table in work memory: what stands at a word's bounds, and new bounds stored.
--- Assumes nothing.
 use mathlib.Core.Path.{_≡_, refl, ap, _∙_}
 use mathlib.Core.Logic.{_⊎_, inl, inr}
 use mathlib.Core.List.{List, [], _∷_}

@@ -1,5 +1,4 @@
 -- Two results that the promise of `tighten` allows are equal: the answer, every number of the words, and every number of work memory.
--- Assumes nothing.
 use mathlib.Core.Path.{_≡_, refl, sym, ap, _∙_}
 use mathlib.Core.List.{List}
 use Prim.Native.Nat.{ℕ, zero, suc, _+_, _*_, _/_, _%_}

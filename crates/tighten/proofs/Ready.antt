@@ -1,5 +1,4 @@
 -- A rule of a ready problem: its words are there, its narrowing may be asked for, and that narrowing is one over the table in memory.
--- Assumes nothing.
 use mathlib.Core.Path.{_≡_, refl, sym, ap, subst, fun-ext}
 use mathlib.Core.Bool.{Bool, true, false}
 use mathlib.Core.List.{List}

@@ -1,5 +1,4 @@
 -- Steps of tightening one after the other: a step for P and then one for Q is a step for both.
--- Assumes nothing.
 use mathlib.Core.Path.{_≡_, refl, sym, ap, ap₂, _∙_}
 use mathlib.Core.Bool.{Bool, true, false, _||_}
 use Prim.Native.Nat.{ℕ, _<_}

@@ -1,5 +1,4 @@
 -- All rules applied once, and again until none changes a bound: what is known before each turn, and at the end.
--- Assumes nothing.
 use mathlib.Core.Path.{_≡_, refl, sym, ap, _∙_, fun-ext}
 use mathlib.Core.Logic.{inr}
 use mathlib.Core.Bool.{Bool, true, false, _||_}

@@ -1,5 +1,4 @@
 -- What the call `tighten` promises: its answer, and every lent number afterwards.
--- Assumes nothing: these are definitions.
 use mathlib.Core.Path.{_≡_}
 use mathlib.Core.Bool.{Bool, true, false}
 use mathlib.Core.List.{List}

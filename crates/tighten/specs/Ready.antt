@@ -1,5 +1,4 @@
 -- What is known of lent memory before a rule is applied, and what is promised after it.
--- Assumes nothing: these are definitions.
 use mathlib.Core.Bool.{Bool, true, false}
 use mathlib.Core.List.{List}
 use Prim.Native.Nat.{ℕ, _+_, _≤_, _<_}

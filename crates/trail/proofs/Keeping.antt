@@ -1,5 +1,4 @@
 -- One number of the copy kept, and a pass over the words.
--- Assumes nothing.
 use mathlib.Core.Path.{_≡_, refl, sym, ap, _∙_}
 use mathlib.Core.Bool.{Bool, cond, not}
 use mathlib.Core.Logic.{_≢_}

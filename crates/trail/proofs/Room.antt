@@ -1,5 +1,4 @@
 -- Each entry of the trail stands for at least one bit that was fixed, so entries and open bits together never become more.
--- Assumes nothing.
 use mathlib.Core.Path.{_≡_, sym}
 use mathlib.Core.Logic.{_≢_}
 use mathlib.Core.List.{List}

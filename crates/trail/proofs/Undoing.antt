@@ -1,5 +1,4 @@
 -- Entries of the trail taken back: they depend on the trail and the copy alone.
--- Assumes nothing.
 use mathlib.Core.Path.{_≡_, refl, sym, ap, _∙_}
 use mathlib.Core.Logic.{inr}
 use mathlib.Core.List.{List}

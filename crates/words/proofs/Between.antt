@@ -1,5 +1,4 @@
 -- Between two bounds that are not equal a bit is open, and no more bits are open than the word has.
--- Assumes nothing.
 use mathlib.Core.Path.{_≡_, refl, _∙_}
 use mathlib.Core.Logic.{_≢_}
 use Prim.Native.Nat.{ℕ, zero, suc, _+_, _/_, _%_, _≤_}

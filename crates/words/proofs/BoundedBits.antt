@@ -1,5 +1,4 @@
 -- Bounds bit by bit, as "Words" has them: lo has no 1 where hi has 0, and neither has a 1 at or above the width.
--- Assumes nothing.
 use mathlib.Core.Path.{_≡_, sym, _∙_}
 use Prim.Native.Nat.{ℕ, _+_, _/_, _^_, _≤_, _<_}
 use native.Mathlib.Nat.{div-lt-iff-lt-mul}

@@ -1,5 +1,4 @@
 -- The count of ones in lo xor hi is the number of open bits, counted one by one; and fewer words have no more of them.
--- Assumes nothing.
 use mathlib.Core.Path.{_≡_, refl, sym, ap, _∙_}
 use Prim.Native.Nat.{ℕ, zero, suc, _+_, _/_, _%_, _^_, _≤_, _<_}
 use native.Mathlib.Nat.{pow-suc, le-refl}

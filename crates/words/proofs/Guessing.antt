@@ -1,5 +1,4 @@
 -- The guess of a table, computed: the lowest-numbered word whose bounds differ, and its highest open bit; or that no bit is open.
--- Assumes nothing.
 use mathlib.Core.Path.{_≡_, refl, ap, _∙_}
 use Prim.Native.Nat.{ℕ, zero, suc, _+_, _^_, _≤_, _<_}
 use native.Mathlib.Omega.{arith}

@@ -1,5 +1,4 @@
 -- In the order by bits "or" is the least number above two numbers, and "and" the greatest below them.
--- Assumes nothing.
 use Prim.Native.Nat.{ℕ}
 use native.Mathlib.Omega.{arith}
 use lib.Bits.{bitAnd, bitOr}

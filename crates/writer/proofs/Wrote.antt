@@ -1,5 +1,4 @@
 -- Blocks of one kind written one after the other, and the parts of a file written one behind the other.
--- Assumes nothing.
 use mathlib.Core.Path.{_≡_, refl, ap, _∙_, subst}
 use mathlib.Core.List.{List, _++_}
 use Prim.Native.Nat.{ℕ, _+_, _-_, _*_, _≤_}

@@ -1,5 +1,4 @@
 -- What the writer puts down, by its places; and the room that it asks for.
--- Assumes nothing: these are definitions.
 use mathlib.Core.Bool.{Bool, _&&_}
 use mathlib.Core.List.{List}
 use Prim.Native.Nat.{ℕ, _+_, _*_, _/_, _<_}

@@ -1,4 +1,4 @@
--- `advise::advise` meets its contract. Assumes nothing.
+-- `advise::advise` meets its contract.
 use native.Mathlib.Omega.{arith}
 use lib.ListN.{length-take}
 use borrow.Author.Needs.{needs}

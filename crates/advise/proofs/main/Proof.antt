@@ -1,4 +1,4 @@
--- `advise::main` meets its contract. Assumes nothing.
+-- `advise::main` meets its contract.
 use mathlib.Core.Path.{subst, sym}
 use Prim.Native.Nat.{_≤_}
 use lib.ListN.{length}

@@ -1,4 +1,4 @@
--- `advise::read_input` meets its contract. Assumes nothing.
+-- `advise::read_input` meets its contract.
 use mathlib.Core.Path.{_≡_}
 use Prim.Native.Nat.{_≤_}
 use lib.ListN.{length}

@@ -1,4 +1,4 @@
--- `blocks::sum_of` meets its contract: up to here the sum is that of the numbers passed, modulo 65,536. Assumes nothing.
+-- `blocks::sum_of` meets its contract: up to here the sum is that of the numbers passed, modulo 65,536.
 use mathlib.Core.Path.{_≡_}
 use Prim.Native.Nat.{_-_, _%_, _≤_}
 use borrow.Author.Needs.{needs}

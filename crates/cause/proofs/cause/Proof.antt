@@ -1,4 +1,4 @@
--- `cause::cause` meets its contract. Assumes nothing.
+-- `cause::cause` meets its contract.
 use mathlib.Core.Path.{sym, _∙_}
 use native.Mathlib.Omega.{arith}
 use Rattle.cause.proofs.Calling.{short-work, short-list, problem-refused, nothing-refused}

@@ -1,4 +1,4 @@
--- `cause::cause_proper` meets its contract. Assumes nothing.
+-- `cause::cause_proper` meets its contract.
 use native.Mathlib.Omega.{arith}
 use Rattle.cause.proofs.Calling.{work-room, fine, asked, end-exists, end-gave-up, end-none, end-trials}
 use borrow.Author.Needs.{needs}

@@ -1,4 +1,4 @@
--- `cause::trials` meets its contract. Assumes nothing.
+-- `cause::trials` meets its contract.
 use native.Mathlib.Omega.{arith}
 use borrow.Author.Tests.{not-true, not-false}
 use Rattle.cause.proofs.Calling.{work-room, fine, trimming, gave-up-end, not-empty, give-room, cause-end}

@@ -1,4 +1,4 @@
--- `checker::check` meets its contract. Assumes nothing.
+-- `checker::check` meets its contract.
 use mathlib.Core.Path.{sym, _∙_}
 use borrow.Author.Needs.{needs}
 use Rattle.checker.proofs.Answers.{refused-problem, refused-limit, ok-limit}

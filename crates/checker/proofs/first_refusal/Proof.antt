@@ -1,4 +1,4 @@
--- `checker::first_refusal` meets its contract. Assumes nothing.
+-- `checker::first_refusal` meets its contract.
 use mathlib.Core.Path.{_≡_, sym, _∙_}
 use mathlib.Core.Bool.{true}
 use borrow.Author.Needs.{needs}

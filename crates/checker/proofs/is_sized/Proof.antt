@@ -1,4 +1,4 @@
--- `checker::is_sized` meets its contract. Assumes nothing.
+-- `checker::is_sized` meets its contract.
 use mathlib.Core.Path.{refl}
 use Rattle.checker.specs.Tests.{sized}
 use Rattle.checker.proofs.is_sized.Statement.{statement}

@@ -1,4 +1,4 @@
--- `explain::answered` meets its contract. Assumes nothing.
+-- `explain::answered` meets its contract.
 use mathlib.Core.Path.{_≡_, refl}
 use mathlib.Core.Logic.{⊎-elim}
 use mathlib.Core.List.{[], _∷_}

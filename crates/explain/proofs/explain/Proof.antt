@@ -1,4 +1,4 @@
--- `explain::explain` meets its contract. Assumes nothing.
+-- `explain::explain` meets its contract.
 use mathlib.Core.Path.{sym, _∙_}
 use borrow.Author.Needs.{needs}
 use Rattle.explain.proofs.Calling.{short-refused, problem-refused, problem-taken, problem-judged}

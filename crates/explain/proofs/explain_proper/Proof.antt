@@ -1,4 +1,4 @@
--- `explain::explain_proper` meets its contract. Assumes nothing.
+-- `explain::explain_proper` meets its contract.
 use borrow.Author.Tests.{not-true, not-false}
 use borrow.Author.Needs.{needs}
 use Rattle.checker.proofs.Deciding.{decided, refuted}

@@ -1,4 +1,4 @@
--- `lines::has_room` meets its contract. Assumes nothing.
+-- `lines::has_room` meets its contract.
 use mathlib.Core.Path.{sym}
 use Prim.Native.Nat.{_+_, _*_}
 use native.Mathlib.Omega.{arith}

@@ -1,4 +1,4 @@
--- `lines::parse` meets its contract. Assumes nothing.
+-- `lines::parse` meets its contract.
 use mathlib.Core.Path.{subst, ap, _∙_}
 use Prim.Native.Nat.{ℕ}
 use native.Mathlib.Omega.{arith}

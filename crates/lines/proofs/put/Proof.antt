@@ -1,4 +1,4 @@
--- `lines::put` meets its contract. Assumes nothing.
+-- `lines::put` meets its contract.
 use mathlib.Core.Path.{refl, _≡_}
 use Prim.Native.Nat.{_+_, _-_, _≤_}
 use native.Mathlib.Omega.{arith}

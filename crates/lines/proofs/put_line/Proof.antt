@@ -1,4 +1,4 @@
--- `lines::put_line` meets its contract. Assumes nothing.
+-- `lines::put_line` meets its contract.
 use mathlib.Core.Path.{sym, _∙_}
 use borrow.Author.Needs.{needs}
 use borrow.Author.Tests.{leb-true}

@@ -1,4 +1,4 @@
--- `lines::put_whole` meets its contract. Assumes nothing.
+-- `lines::put_whole` meets its contract.
 use mathlib.Core.Path.{_≡_, _∙_}
 use Prim.Native.Nat.{_<_}
 use native.Mathlib.Omega.{arith}

@@ -1,4 +1,4 @@
--- `packing::of_explained` meets its contract. Assumes nothing.
+-- `packing::of_explained` meets its contract.
 use mathlib.Core.Path.{sym, ap, subst, _∙_}
 use Rattle.packing.specs.Packed.{packed, Within, explained}
 use borrow.Author.Needs.{needs}

@@ -1,4 +1,4 @@
--- `packing::of_read` meets its contract. Assumes nothing.
+-- `packing::of_read` meets its contract.
 use mathlib.Core.Path.{sym, ap, subst, _∙_}
 use Rattle.packing.specs.Packed.{packed, Within, read}
 use native.Mathlib.Omega.{arith}

@@ -1,4 +1,4 @@
--- `packing::of_tightened` meets its contract. Assumes nothing.
+-- `packing::of_tightened` meets its contract.
 use mathlib.Core.Path.{sym, ap, subst, _∙_}
 use Rattle.packing.specs.Packed.{packed, Within, tightened}
 use borrow.Author.Needs.{needs}

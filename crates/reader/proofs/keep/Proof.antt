@@ -1,4 +1,4 @@
--- `reader::keep` meets its contract. Assumes nothing.
+-- `reader::keep` meets its contract.
 use native.Mathlib.Omega.{arith}
 use borrow.Author.Needs.{needs}
 use Rattle.blocks.proofs.WriteBack.{proper-room}

@@ -1,4 +1,4 @@
--- `reader::read` meets its contract. Assumes nothing.
+-- `reader::read` meets its contract.
 use mathlib.Core.Path.{subst}
 use native.Mathlib.Omega.{arith}
 use borrow.Author.Needs.{needs}

@@ -1,4 +1,4 @@
--- `report::advise` meets its contract. Assumes nothing.
+-- `report::advise` meets its contract.
 use mathlib.Core.Path.{sym}
 use Prim.Native.Nat.{_*_, _≤_}
 use native.Mathlib.Omega.{arith}

@@ -1,4 +1,4 @@
--- `report::tell` meets its contract. Assumes nothing.
+-- `report::tell` meets its contract.
 use borrow.Author.Needs.{needs}
 use mathlib.Core.Path.{refl}
 use Rattle.report.proofs.Telling.{valued, found-told, none-comes, gave-up-told, asked-after, told-after, never-refused}

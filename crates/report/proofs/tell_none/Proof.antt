@@ -1,4 +1,4 @@
--- `report::tell_none` meets its contract. Assumes nothing.
+-- `report::tell_none` meets its contract.
 use borrow.Author.Needs.{needs}
 use mathlib.Core.Path.{refl}
 use Rattle.report.proofs.Naming.{trials-asked, cause-room, cause-told, unnamed-told, never-exists, never-refused}

@@ -1,4 +1,4 @@
--- `searcher::search` meets its contract: it calls itself, and the open bits of the table fall at every call. Assumes nothing.
+-- `searcher::search` meets its contract: it calls itself, and the open bits of the table fall at every call.
 use Prim.Native.Nat.{ℕ, _<_}
 use native.Mathlib.Omega.{arith}
 use borrow.Author.Needs.{needs}

@@ -1,4 +1,4 @@
--- `searcher::prepare` meets its contract. Assumes nothing.
+-- `searcher::prepare` meets its contract.
 use native.Mathlib.Omega.{arith}
 use borrow.Author.Tests.{not-true, not-false}
 use Rattle.searcher.proofs.Preparing.{prepared-none, prepared-found, prepared-stopped, commit-room, commit-fixable, prepared-guess}

@@ -1,4 +1,4 @@
--- `searcher::search_problem` meets its contract. Assumes nothing.
+-- `searcher::search_problem` meets its contract.
 use mathlib.Core.Logic.{inl}
 use native.Mathlib.Omega.{arith}
 use Rattle.searcher.proofs.Starts.{problem-begun, problem-sought}

@@ -1,4 +1,4 @@
--- `sievecrest::sievecrest_advise` meets its contract. Assumes nothing.
+-- `sievecrest::sievecrest_advise` meets its contract.
 use mathlib.Core.Path.{sym, _∙_}
 use native.Mathlib.Omega.{arith}
 use Rattle.sievecrest.proofs.Sizes.{advise-within}

@@ -1,4 +1,4 @@
--- `sievecrest::sievecrest_cause` meets its contract. Assumes nothing.
+-- `sievecrest::sievecrest_cause` meets its contract.
 use Rattle.sievecrest.proofs.Sizes.{cause-within}
 use borrow.Author.Needs.{needs}
 use Rattle.sievecrest.proofs.sievecrest_cause.Statement.{statement}

@@ -1,4 +1,4 @@
--- `sievecrest::sievecrest_check` meets its contract. Assumes nothing.
+-- `sievecrest::sievecrest_check` meets its contract.
 use Rattle.sievecrest.proofs.Sizes.{check-within}
 use borrow.Author.Needs.{needs}
 use Rattle.sievecrest.proofs.sievecrest_check.Statement.{statement}

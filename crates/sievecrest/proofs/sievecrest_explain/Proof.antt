@@ -1,4 +1,4 @@
--- `sievecrest::sievecrest_explain` meets its contract. Assumes nothing.
+-- `sievecrest::sievecrest_explain` meets its contract.
 use Rattle.sievecrest.proofs.Sizes.{explain-within}
 use borrow.Author.Needs.{needs}
 use Rattle.sievecrest.proofs.sievecrest_explain.Statement.{statement}

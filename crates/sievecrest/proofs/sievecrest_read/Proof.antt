@@ -1,4 +1,4 @@
--- `sievecrest::sievecrest_read` meets its contract. Assumes nothing.
+-- `sievecrest::sievecrest_read` meets its contract.
 use Rattle.sievecrest.proofs.Sizes.{read-within}
 use borrow.Author.Needs.{needs}
 use Rattle.sievecrest.proofs.sievecrest_read.Statement.{statement}

@@ -1,4 +1,4 @@
--- `sievecrest::sievecrest_solve` meets its contract. Assumes nothing.
+-- `sievecrest::sievecrest_solve` meets its contract.
 use native.Mathlib.Omega.{arith}
 use Rattle.sievecrest.proofs.Sizes.{solve-within}
 use borrow.Author.Needs.{needs}

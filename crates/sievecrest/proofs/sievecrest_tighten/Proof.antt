@@ -1,4 +1,4 @@
--- `sievecrest::sievecrest_tighten` meets its contract. Assumes nothing.
+-- `sievecrest::sievecrest_tighten` meets its contract.
 use Rattle.sievecrest.proofs.Sizes.{tighten-within}
 use borrow.Author.Needs.{needs}
 use Rattle.sievecrest.proofs.sievecrest_tighten.Statement.{statement}

@@ -1,4 +1,4 @@
--- `sievecrest::sievecrest_write` meets its contract. Assumes nothing.
+-- `sievecrest::sievecrest_write` meets its contract.
 use Rattle.sievecrest.proofs.Sizes.{write-within}
 use borrow.Author.Needs.{needs}
 use Rattle.sievecrest.proofs.sievecrest_write.Statement.{statement}

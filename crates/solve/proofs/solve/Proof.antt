@@ -1,4 +1,4 @@
--- `solve::solve` meets its contract. Assumes nothing.
+-- `solve::solve` meets its contract.
 use mathlib.Core.Path.{sym, _∙_}
 use native.Mathlib.Omega.{arith}
 use Rattle.solve.proofs.Calling.{short-work, short-model, problem-refused, nothing-refused}

@@ -1,4 +1,4 @@
--- `solve::solve_proper` meets its contract. Assumes nothing.
+-- `solve::solve_proper` meets its contract.
 use native.Mathlib.Omega.{arith}
 use Rattle.solve.proofs.Calling.{work-room, model-room, fine, asked, memory-room, end-found, end-none, end-gave-up}
 use borrow.Author.Needs.{needs}

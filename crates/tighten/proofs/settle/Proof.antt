@@ -1,4 +1,4 @@
--- `tighten::settle` meets its contract. Assumes nothing.
+-- `tighten::settle` meets its contract.
 use mathlib.Core.Path.{_∙_}
 use borrow.Author.Tests.{not-true, not-false}
 use Rattle.words.specs.Count.{openBelow}

@@ -1,4 +1,4 @@
--- `tighten::sweep` meets its contract. Assumes nothing.
+-- `tighten::sweep` meets its contract.
 use mathlib.Core.Path.{_≡_, _∙_}
 use borrow.Author.Tests.{not-true, not-false}
 use Prim.Native.Nat.{_-_, _≤_}

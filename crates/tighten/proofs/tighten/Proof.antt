@@ -1,4 +1,4 @@
--- `tighten::tighten` meets its contract. Assumes nothing.
+-- `tighten::tighten` meets its contract.
 use mathlib.Core.Path.{sym, _∙_}
 use Rattle.tighten.proofs.Calling.{short-refused, problem-refused, problem-given, ended-answer}
 use borrow.Author.Needs.{needs}

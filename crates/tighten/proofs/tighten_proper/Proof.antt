@@ -1,4 +1,4 @@
--- `tighten::tighten_proper` meets its contract. Assumes nothing.
+-- `tighten::tighten_proper` meets its contract.
 use Rattle.tighten.proofs.Calling.{call-ready, call-listed, call-tight, call-conflict}
 use borrow.Author.Needs.{needs}
 use Rattle.tighten.proofs.tighten_proper.Statement.{statement}

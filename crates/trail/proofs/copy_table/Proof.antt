@@ -1,4 +1,4 @@
--- `trail::copy_table` meets its contract. Assumes nothing.
+-- `trail::copy_table` meets its contract.
 use mathlib.Core.Path.{_≡_}
 use Prim.Native.Nat.{_-_, _≤_}
 use native.Mathlib.Omega.{arith}

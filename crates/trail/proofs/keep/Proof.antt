@@ -1,4 +1,4 @@
--- `trail::keep` meets its contract. Assumes nothing.
+-- `trail::keep` meets its contract.
 use Prim.Native.Nat.{_+_, _*_, _<_}
 use native.Mathlib.Omega.{arith}
 use lib.ListN.{length, length-set}

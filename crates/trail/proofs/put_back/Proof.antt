@@ -1,4 +1,4 @@
--- `trail::put_back` meets its contract. Assumes nothing.
+-- `trail::put_back` meets its contract.
 use native.Mathlib.Omega.{arith}
 use Rattle.trail.proofs.Moving.{put-back, put-nothing}
 use borrow.Author.Needs.{needs}

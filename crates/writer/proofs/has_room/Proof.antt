@@ -1,4 +1,4 @@
--- `writer::has_room` meets its contract. Assumes nothing.
+-- `writer::has_room` meets its contract.
 use borrow.Author.Needs.{needs}
 use borrow.Author.Tests.{le-leb, lt-leb}
 use Rattle.blocks.specs.Written.{blocksFor}

@@ -1,4 +1,4 @@
--- `writer::write` meets its contract. Assumes nothing.
+-- `writer::write` meets its contract.
 use mathlib.Core.Path.{refl, sym, _∙_}
 use Prim.Native.Nat.{_≤_}
 use borrow.Author.Needs.{needs}

@@ -1,4 +1,4 @@
--- `writer::write_all` meets its contract: words blocks, rules blocks and the end block, one behind the other. Assumes nothing.
+-- `writer::write_all` meets its contract: words blocks, rules blocks and the end block, one behind the other.
 use mathlib.Core.Path.{refl}
 use Prim.Native.Nat.{_+_, _*_, _/_, _≤_}
 use native.Mathlib.Omega.{arith}

@@ -1,4 +1,4 @@
--- `cause::dropping::attempt` meets its contract. Assumes nothing.
+-- `cause::dropping::attempt` meets its contract.
 use Rattle.cause.proofs.Trying.{trial-asked, trial-dropped, trial-gave-up, trial-kept, list-room}
 use borrow.Author.Needs.{needs}
 use Rattle.cause.proofs.dropping.attempt.Statement.{statement}

@@ -1,4 +1,4 @@
--- `cause::dropping::trim` meets its contract. Assumes nothing.
+-- `cause::dropping::trim` meets its contract.
 use mathlib.Core.Path.{_≡_, _∙_}
 use Prim.Native.Nat.{suc, _-_}
 use native.Mathlib.Omega.{arith}

@@ -1,4 +1,4 @@
--- `cause::list::insert` meets its contract. Assumes nothing.
+-- `cause::list::insert` meets its contract.
 use Prim.Native.Nat.{_+_}
 use native.Mathlib.Omega.{arith}
 use lib.Seq.{getD-set-same}

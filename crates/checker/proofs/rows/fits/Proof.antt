@@ -1,4 +1,4 @@
--- `checker::rows::fits` meets its contract. Assumes nothing.
+-- `checker::rows::fits` meets its contract.
 use Rattle.checker.specs.Rows.{classOf}
 use Rattle.checker.proofs.RowNumbers.{last-class}
 use borrow.Author.Needs.{needs}

@@ -1,4 +1,4 @@
--- `checker::rows::is_part` meets its contract. Assumes nothing.
+-- `checker::rows::is_part` meets its contract.
 use Rattle.checker.proofs.RowNumbers.{part-test, no-part}
 use Rattle.checker.proofs.rows.is_part.Statement.{statement}
 use Rattle.checker.proofs.rows.is_part.Tie as tie

@@ -1,4 +1,4 @@
--- `checker::rows::is_sum` meets its contract. Assumes nothing.
+-- `checker::rows::is_sum` meets its contract.
 use Rattle.checker.proofs.RowNumbers.{sum-test, no-sum}
 use Rattle.checker.proofs.rows.is_sum.Statement.{statement}
 use Rattle.checker.proofs.rows.is_sum.Tie as tie

@@ -1,5 +1,4 @@
 -- `checker::rows::row`: the constant table has what the rows of "Rules" say, by one test of all its entries.
--- Assumes nothing.
 use mathlib.Core.Path.{_≡_, subst}
 use mathlib.Core.Bool.{Bool, _&&_}
 use mathlib.Core.List.{List, [], _∷_}

@@ -1,4 +1,4 @@
--- `checker::rows::used` meets its contract. Assumes nothing.
+-- `checker::rows::used` meets its contract.
 use borrow.Author.Needs.{needs}
 use Rattle.rules.specs.Kinds.{kindOf}
 use Rattle.checker.proofs.RowNumbers.{entry-used}

@@ -1,4 +1,4 @@
--- `checker::rule::are_fields` meets its contract. Assumes nothing.
+-- `checker::rule::are_fields` meets its contract.
 use Rattle.checker.specs.Tests.{areFields}
 use borrow.Author.Needs.{needs}
 use Rattle.checker.proofs.rule.are_fields.Statement.{statement}

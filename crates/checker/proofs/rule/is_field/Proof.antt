@@ -1,4 +1,4 @@
--- `checker::rule::is_field` meets its contract. Assumes nothing.
+-- `checker::rule::is_field` meets its contract.
 use borrow.Author.Needs.{needs}
 use Rattle.checker.proofs.rule.is_field.Statement.{statement}
 use Rattle.checker.proofs.rule.is_field.Tie as tie

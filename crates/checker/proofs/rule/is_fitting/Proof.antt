@@ -1,4 +1,4 @@
--- `checker::rule::is_fitting` meets its contract. Assumes nothing.
+-- `checker::rule::is_fitting` meets its contract.
 use mathlib.Core.Path.{_∙_}
 use Rattle.checker.specs.Lent.{ruleAt}
 use Rattle.checker.proofs.RowNumbers.{fitting}

@@ -1,4 +1,4 @@
--- `checker::rule::rule_refusal` meets its contract. Assumes nothing.
+-- `checker::rule::rule_refusal` meets its contract.
 use mathlib.Core.Path.{_≡_, sym, ap, subst, _∙_}
 use mathlib.Core.Bool.{true}
 use lib.Dec.{T}

@@ -1,4 +1,4 @@
--- `checker::rule::width_of` meets its contract. Assumes nothing.
+-- `checker::rule::width_of` meets its contract.
 use mathlib.Core.Path.{sym}
 use lib.ListN.{List·getD-eq-default}
 use borrow.Author.Needs.{needs}

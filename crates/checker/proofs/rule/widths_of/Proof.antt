@@ -1,4 +1,4 @@
--- `checker::rule::widths_of` meets its contract. Assumes nothing.
+-- `checker::rule::widths_of` meets its contract.
 use borrow.Author.Needs.{needs}
 use Rattle.checker.proofs.rule.widths_of.Statement.{statement}
 use Rattle.checker.proofs.rule.widths_of.Tie as tie

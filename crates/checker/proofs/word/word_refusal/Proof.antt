@@ -1,4 +1,4 @@
--- `checker::word::word_refusal` meets its contract. Assumes nothing.
+-- `checker::word::word_refusal` meets its contract.
 use mathlib.Core.Path.{sym, _∙_, subst}
 use lib.Dec.{T}
 use borrow.Author.Tests.{not-true, not-false}

@@ -1,4 +1,4 @@
--- `explain::asking::bounds_of` meets its contract. Assumes nothing.
+-- `explain::asking::bounds_of` meets its contract.
 use borrow.Author.Needs.{needs}
 use Rattle.explain.specs.Reading.{boundsIn}
 use Rattle.explain.proofs.asking.bounds_of.Statement.{statement}

@@ -1,4 +1,4 @@
--- `explain::asking::is_open` meets its contract. Assumes nothing.
+-- `explain::asking::is_open` meets its contract.
 use Prim.Native.Nat.{_<_}
 use native.Mathlib.Omega.{arith}
 use lib.Dec.{T}

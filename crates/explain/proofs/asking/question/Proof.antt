@@ -1,4 +1,4 @@
--- `explain::asking::question` meets its contract. Assumes nothing.
+-- `explain::asking::question` meets its contract.
 use borrow.Author.Needs.{needs}
 use Rattle.explain.proofs.Reading.{question-read}
 use Rattle.explain.proofs.asking.question.Statement.{statement}

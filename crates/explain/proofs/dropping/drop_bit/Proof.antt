@@ -1,4 +1,4 @@
--- `explain::dropping::drop_bit` meets its contract. Assumes nothing.
+-- `explain::dropping::drop_bit` meets its contract.
 use borrow.Author.Needs.{needs}
 use Rattle.explain.proofs.PlaceNumbers.{bit-at}
 use Rattle.checker.proofs.Deciding.{decided, refuted}

@@ -1,4 +1,4 @@
--- `explain::dropping::drop_place` meets its contract. Assumes nothing.
+-- `explain::dropping::drop_place` meets its contract.
 use Prim.Native.Nat.{_-_, _≤_}
 use native.Mathlib.Omega.{arith}
 use borrow.Author.Needs.{needs}

@@ -1,4 +1,4 @@
--- `explain::dropping::reason` meets its contract. Assumes nothing.
+-- `explain::dropping::reason` meets its contract.
 use native.Mathlib.Omega.{arith}
 use lib.ListN.{length-append}
 use borrow.Author.Needs.{needs}

@@ -1,4 +1,4 @@
--- `explain::places::bit_of` meets its contract. Assumes nothing.
+-- `explain::places::bit_of` meets its contract.
 use borrow.Author.Needs.{needs}
 use Rattle.words.specs.Bits.{bit}
 use Rattle.explain.proofs.places.bit_of.Statement.{statement}

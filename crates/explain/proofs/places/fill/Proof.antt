@@ -1,4 +1,4 @@
--- `explain::places::fill` meets its contract. Assumes nothing.
+-- `explain::places::fill` meets its contract.
 use mathlib.Core.Path.{sym, _∙_}
 use borrow.Author.Needs.{needs}
 use Rattle.explain.proofs.Opening.{fill-one, fill-none}

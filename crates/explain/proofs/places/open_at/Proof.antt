@@ -1,4 +1,4 @@
--- `explain::places::open_at` meets its contract. Assumes nothing.
+-- `explain::places::open_at` meets its contract.
 use mathlib.Core.Path.{_≡_, ap}
 use borrow.Author.Needs.{needs}
 use Rattle.rules.specs.Kinds.{Place, R, A, B, S}

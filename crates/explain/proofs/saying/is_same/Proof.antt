@@ -1,4 +1,4 @@
--- `explain::saying::is_same` meets its contract. Assumes nothing.
+-- `explain::saying::is_same` meets its contract.
 use mathlib.Core.Path.{refl, sym}
 use borrow.Author.Needs.{needs}
 use Rattle.explain.proofs.Answers.{conflict-forced, conflict-free, forced-free, same-answer, other-answer, forced-answers}

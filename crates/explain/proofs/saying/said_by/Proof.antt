@@ -1,4 +1,4 @@
--- `explain::saying::said_by` meets its contract. Assumes nothing.
+-- `explain::saying::said_by` meets its contract.
 use borrow.Author.Needs.{needs}
 use borrow.Author.Tests.{not-true, not-false}
 use Rattle.explain.proofs.PlaceNumbers.{bit-at}

@@ -1,4 +1,4 @@
--- `explain::saying::stays` meets its contract. Assumes nothing.
+-- `explain::saying::stays` meets its contract.
 use borrow.Author.Needs.{needs}
 use Rattle.explain.proofs.Answers.{narrow-asked, narrow-said, compared-stays}
 use Rattle.explain.proofs.saying.stays.Statement.{statement}

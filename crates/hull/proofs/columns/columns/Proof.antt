@@ -1,4 +1,4 @@
--- `hull::columns::columns` meets its contract. Assumes nothing.
+-- `hull::columns::columns` meets its contract.
 use mathlib.Core.Path.{_≡_, _∙_}
 use mathlib.Core.Bool.{Bool, true, false, _&&_}
 use Prim.Native.Nat.{ℕ}

@@ -1,4 +1,4 @@
--- `hull::columns::framed` meets its contract. Assumes nothing.
+-- `hull::columns::framed` meets its contract.
 use borrow.Author.Needs.{needs}
 use Rattle.hull.specs.ByColumns.{framedOf}
 use Rattle.hull.proofs.columns.framed.Statement.{statement}

@@ -1,4 +1,4 @@
--- `hull::columns::left` meets its contract. Assumes nothing.
+-- `hull::columns::left` meets its contract.
 use borrow.Author.Needs.{needs}
 use Rattle.hull.specs.ByColumns.{leftOf}
 use Rattle.hull.proofs.columns.left.Statement.{statement}

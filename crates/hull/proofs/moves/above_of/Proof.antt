@@ -1,4 +1,4 @@
--- `hull::moves::above_of` meets its contract. Assumes nothing.
+-- `hull::moves::above_of` meets its contract.
 use borrow.Author.Needs.{needs}
 use Rattle.hull.proofs.moves.above_of.Statement.{statement}
 use Rattle.hull.proofs.moves.above_of.Tie as tie

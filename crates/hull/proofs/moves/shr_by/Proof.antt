@@ -1,4 +1,4 @@
--- `hull::moves::shr_by` meets its contract. Assumes nothing.
+-- `hull::moves::shr_by` meets its contract.
 use mathlib.Core.Path.{sym}
 use borrow.Author.Needs.{needs}
 use Rattle.hull.proofs.Parts.{shr-all}

@@ -1,4 +1,4 @@
--- `hull::settle::at_once` meets its contract. Assumes nothing.
+-- `hull::settle::at_once` meets its contract.
 use borrow.Author.Needs.{needs}
 use Rattle.hull.proofs.settle.at_once.Statement.{statement}
 use Rattle.hull.proofs.settle.at_once.Tie as tie

@@ -1,4 +1,4 @@
--- `hull::settle::settle` meets its contract. Assumes nothing.
+-- `hull::settle::settle` meets its contract.
 use borrow.Author.Needs.{needs}
 use Rattle.hull.proofs.settle.settle.Statement.{statement}
 use Rattle.hull.proofs.settle.settle.Tie as tie

@@ -1,4 +1,4 @@
--- `hull::settle::value` meets its contract. Assumes nothing.
+-- `hull::settle::value` meets its contract.
 use borrow.Author.Needs.{needs}
 use borrow.Author.Tests.{eq-eqb, ne-eqb}
 use Rattle.hull.specs.ByColumns.{valueOf}

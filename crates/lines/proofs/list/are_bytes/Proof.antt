@@ -1,4 +1,4 @@
--- `lines::list::are_bytes` meets its contract. Assumes nothing.
+-- `lines::list::are_bytes` meets its contract.
 use Prim.Native.Nat.{ℕ, _-_, _≤_, _<_}
 use native.Mathlib.Omega.{arith}
 use borrow.Author.Count.{below-more}

@@ -1,4 +1,4 @@
--- `lines::list::narrow` meets its contract. Assumes nothing.
+-- `lines::list::narrow` meets its contract.
 use mathlib.Core.Path.{refl}
 use native.Mathlib.Omega.{arith}
 use Rattle.lines.proofs.Lists.{told-no}

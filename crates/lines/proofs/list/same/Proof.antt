@@ -1,4 +1,4 @@
--- `lines::list::same` meets its contract. Assumes nothing.
+-- `lines::list::same` meets its contract.
 use mathlib.Core.Path.{ap, _≡_}
 use mathlib.Core.List.{List}
 use Prim.Native.Nat.{ℕ, _-_, _≤_, _<_}

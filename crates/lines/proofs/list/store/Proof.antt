@@ -1,4 +1,4 @@
--- `lines::list::store` meets its contract. Assumes nothing.
+-- `lines::list::store` meets its contract.
 use mathlib.Core.Path.{_≡_, refl}
 use Prim.Native.Nat.{_-_, _≤_}
 use native.Mathlib.Omega.{arith}

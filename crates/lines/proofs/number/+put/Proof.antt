@@ -1,4 +1,4 @@
--- `lines::number::put` meets its contract. Assumes nothing.
+-- `lines::number::put` meets its contract.
 use mathlib.Core.Path.{ap}
 use Prim.Native.Nat.{ℕ, _<_}
 use native.Mathlib.Omega.{arith}

@@ -1,4 +1,4 @@
--- `lines::number::put_all` meets its contract. Assumes nothing.
+-- `lines::number::put_all` meets its contract.
 use mathlib.Core.Path.{refl, _∙_, _≡_}
 use Prim.Native.Nat.{_+_, _*_, _-_, _≤_}
 use native.Mathlib.Omega.{arith}

@@ -1,4 +1,4 @@
--- `lines::number::read` meets its contract. Assumes nothing.
+-- `lines::number::read` meets its contract.
 use Prim.Native.Nat.{_-_}
 use native.Mathlib.Omega.{arith}
 use borrow.Author.Needs.{needs}

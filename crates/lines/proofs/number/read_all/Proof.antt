@@ -1,4 +1,4 @@
--- `lines::number::read_all` meets its contract. Assumes nothing.
+-- `lines::number::read_all` meets its contract.
 use mathlib.Core.Path.{refl, subst, _≡_}
 use Prim.Native.Nat.{_+_, _-_}
 use native.Mathlib.Omega.{arith}

@@ -1,4 +1,4 @@
--- `reader::block::body_of` meets its contract: each test that fails tells that the block is none, and all together which it is. Assumes nothing.
+-- `reader::block::body_of` meets its contract: each test that fails tells that the block is none, and all together which it is.
 use mathlib.Core.Path.{sym, _∙_}
 use borrow.Author.Needs.{needs}
 use borrow.Author.Tests.{not-true, not-false}

@@ -1,4 +1,4 @@
--- `reader::block::has_gaps` meets its contract: the records passed have their gaps. Assumes nothing.
+-- `reader::block::has_gaps` meets its contract: the records passed have their gaps.
 use Prim.Native.Nat.{_+_, _-_, _*_, _≤_}
 use native.Mathlib.Omega.{arith}
 use borrow.Author.Needs.{needs}

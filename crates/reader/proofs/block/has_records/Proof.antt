@@ -1,4 +1,4 @@
--- `reader::block::has_records` meets its contract. Assumes nothing.
+-- `reader::block::has_records` meets its contract.
 use native.Mathlib.Omega.{arith}
 use borrow.Author.Needs.{needs}
 use borrow.Author.Tests.{not-true, not-false}

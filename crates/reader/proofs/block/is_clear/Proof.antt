@@ -1,4 +1,4 @@
--- `reader::block::is_clear` meets its contract: the bytes passed are 0. Assumes nothing.
+-- `reader::block::is_clear` meets its contract: the bytes passed are 0.
 use Prim.Native.Nat.{_-_, _≤_}
 use native.Mathlib.Omega.{arith}
 use borrow.Author.Needs.{needs}

@@ -1,4 +1,4 @@
--- `reader::block::load` meets its contract: the bytes passed, from the last, make the number. Assumes nothing.
+-- `reader::block::load` meets its contract: the bytes passed, from the last, make the number.
 use mathlib.Core.Path.{_≡_}
 use Prim.Native.Nat.{_+_, _-_, _≤_}
 use native.Mathlib.Omega.{arith}

@@ -1,4 +1,4 @@
--- `reader::machine::scan_file` meets its contract: the machine stands where the blocks passed lead it. Assumes nothing.
+-- `reader::machine::scan_file` meets its contract: the machine stands where the blocks passed lead it.
 use mathlib.Core.Path.{subst}
 use Prim.Native.Nat.{_-_, _≤_}
 use native.Mathlib.Omega.{arith}

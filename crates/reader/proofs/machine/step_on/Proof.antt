@@ -1,4 +1,4 @@
--- `reader::machine::step_on` meets its contract: one answer for each way on, and for each test that shuts it. Assumes nothing.
+-- `reader::machine::step_on` meets its contract: one answer for each way on, and for each test that shuts it.
 use mathlib.Core.Path.{refl, subst}
 use native.Mathlib.Omega.{arith}
 use borrow.Author.Needs.{needs}

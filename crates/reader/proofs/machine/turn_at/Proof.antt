@@ -1,4 +1,4 @@
--- `reader::machine::turn_at` meets its contract: one answer for each way that a block may go. Assumes nothing.
+-- `reader::machine::turn_at` meets its contract: one answer for each way that a block may go.
 use mathlib.Core.Path.{subst}
 use borrow.Author.Needs.{needs}
 use Rattle.blocks.specs.Block.{Sound}

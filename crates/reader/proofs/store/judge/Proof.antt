@@ -1,4 +1,4 @@
--- `reader::store::judge` meets its contract: what is checked is what was stored. Assumes nothing.
+-- `reader::store::judge` meets its contract: what is checked is what was stored.
 use Prim.Native.Nat.{_*_}
 use borrow.Author.Needs.{needs}
 use Rattle.blocks.specs.Decode.{wordsIn, rulesIn}

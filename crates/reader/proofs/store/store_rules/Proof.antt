@@ -1,4 +1,4 @@
--- `reader::store::store_rules` meets its contract: the bytes passed are stored. Assumes nothing.
+-- `reader::store::store_rules` meets its contract: the bytes passed are stored.
 use mathlib.Core.Path.{_≡_, refl, ap}
 use Prim.Native.Nat.{_+_, _-_, _*_, _/_, _%_, _≤_}
 use borrow.Author.Needs.{needs}

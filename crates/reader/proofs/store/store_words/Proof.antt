@@ -1,4 +1,4 @@
--- `reader::store::store_words` meets its contract: the numbers passed are stored. Assumes nothing.
+-- `reader::store::store_words` meets its contract: the numbers passed are stored.
 use mathlib.Core.Path.{_≡_, refl}
 use mathlib.Core.Path.{ap, _∙_}
 use Prim.Native.Nat.{_-_, _*_, _≤_}

@@ -1,4 +1,4 @@
--- `report::line::put_binary` meets its contract: the digits passed are put. Assumes nothing.
+-- `report::line::put_binary` meets its contract: the digits passed are put.
 use mathlib.Core.Path.{_≡_, refl}
 use Prim.Native.Nat.{_+_, _-_, _≤_}
 use native.Mathlib.Omega.{arith}

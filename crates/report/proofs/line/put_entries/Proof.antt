@@ -1,4 +1,4 @@
--- `report::line::put_entries` meets its contract: the entries passed are put, of at most five digits each. Assumes nothing.
+-- `report::line::put_entries` meets its contract: the entries passed are put, of at most five digits each.
 use mathlib.Core.Path.{_≡_, refl, _∙_}
 use Prim.Native.Nat.{_+_, _-_, _*_, _≤_}
 use native.Mathlib.Omega.{arith}

@@ -1,4 +1,4 @@
--- `report::line::put_line` meets its contract. Assumes nothing.
+-- `report::line::put_line` meets its contract.
 use native.Mathlib.Omega.{arith}
 use borrow.Author.Needs.{needs}
 use Rattle.report.proofs.Puts.{line-put}

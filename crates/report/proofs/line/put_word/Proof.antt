@@ -1,4 +1,4 @@
--- `report::line::put_word` meets its contract: at most 2, 3, 1, 64 and 1 bytes are put. Assumes nothing.
+-- `report::line::put_word` meets its contract: at most 2, 3, 1, 64 and 1 bytes are put.
 use Prim.Native.Nat.{_+_, _≤_}
 use native.Mathlib.Omega.{arith}
 use borrow.Author.Needs.{needs}

@@ -1,4 +1,4 @@
--- `report::printing::put_cause` meets its contract. Assumes nothing.
+-- `report::printing::put_cause` meets its contract.
 use borrow.Author.Needs.{needs}
 use Rattle.report.proofs.Reports.{cause-put}
 use Rattle.report.proofs.printing.put_cause.Statement.{statement}

@@ -1,4 +1,4 @@
--- `report::printing::put_refused` meets its contract. Assumes nothing.
+-- `report::printing::put_refused` meets its contract.
 use borrow.Author.Needs.{needs}
 use Rattle.report.proofs.Reports.{refused-put}
 use Rattle.report.proofs.printing.put_refused.Statement.{statement}

@@ -1,4 +1,4 @@
--- `report::printing::put_sat` meets its contract. Assumes nothing.
+-- `report::printing::put_sat` meets its contract.
 use borrow.Author.Needs.{needs}
 use Rattle.report.proofs.Reports.{sat-put}
 use Rattle.report.proofs.printing.put_sat.Statement.{statement}

@@ -1,4 +1,4 @@
--- `report::printing::put_unknown` meets its contract. Assumes nothing.
+-- `report::printing::put_unknown` meets its contract.
 use borrow.Author.Needs.{needs}
 use Rattle.report.proofs.Reports.{unknown-put}
 use Rattle.report.proofs.printing.put_unknown.Statement.{statement}

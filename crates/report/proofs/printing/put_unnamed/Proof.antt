@@ -1,4 +1,4 @@
--- `report::printing::put_unnamed` meets its contract. Assumes nothing.
+-- `report::printing::put_unnamed` meets its contract.
 use borrow.Author.Needs.{needs}
 use Rattle.report.proofs.Reports.{unnamed-put}
 use Rattle.report.proofs.printing.put_unnamed.Statement.{statement}

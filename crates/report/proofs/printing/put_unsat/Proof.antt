@@ -1,4 +1,4 @@
--- `report::printing::put_unsat` meets its contract. Assumes nothing.
+-- `report::printing::put_unsat` meets its contract.
 use borrow.Author.Needs.{needs}
 use Rattle.report.proofs.Reports.{unsat-put}
 use Rattle.report.proofs.printing.put_unsat.Statement.{statement}

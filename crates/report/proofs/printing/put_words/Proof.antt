@@ -1,4 +1,4 @@
--- `report::printing::put_words` meets its contract: the lines passed are put, of at most 71 bytes each. Assumes nothing.
+-- `report::printing::put_words` meets its contract: the lines passed are put, of at most 71 bytes each.
 use mathlib.Core.Path.{_≡_, refl, _∙_}
 use Prim.Native.Nat.{_+_, _-_, _*_, _≤_}
 use native.Mathlib.Omega.{arith}

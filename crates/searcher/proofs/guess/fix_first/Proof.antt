@@ -1,4 +1,4 @@
--- `searcher::guess::fix_first` meets its contract. Assumes nothing.
+-- `searcher::guess::fix_first` meets its contract.
 use Rattle.searcher.specs.Guessing.{zeroFixed}
 use Rattle.searcher.proofs.Guesses.{some-open, top-low, top-on}
 use borrow.Author.Needs.{needs}

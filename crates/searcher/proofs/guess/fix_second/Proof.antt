@@ -1,4 +1,4 @@
--- `searcher::guess::fix_second` meets its contract. Assumes nothing.
+-- `searcher::guess::fix_second` meets its contract.
 use Rattle.searcher.specs.Guessing.{oneFixed}
 use Rattle.searcher.proofs.Guesses.{some-open, top-low, top-off}
 use borrow.Author.Needs.{needs}

@@ -1,4 +1,4 @@
--- `searcher::guess::open_word` meets its contract. Assumes nothing.
+-- `searcher::guess::open_word` meets its contract.
 use mathlib.Core.Path.{_≡_, sym, _∙_}
 use mathlib.Core.List.{List}
 use Prim.Native.Nat.{ℕ, _+_, _-_, _≤_, _<_}

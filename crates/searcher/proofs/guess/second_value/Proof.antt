@@ -1,4 +1,4 @@
--- `searcher::guess::second_value` meets its contract. Assumes nothing.
+-- `searcher::guess::second_value` meets its contract.
 use mathlib.Core.Logic.{inr}
 use native.Mathlib.Omega.{arith}
 use Rattle.searcher.proofs.Guesses.{moved-fixable, second-left}

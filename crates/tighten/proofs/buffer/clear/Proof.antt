@@ -1,4 +1,4 @@
--- `tighten::buffer::clear` meets its contract. Assumes nothing.
+-- `tighten::buffer::clear` meets its contract.
 use native.Mathlib.Omega.{arith}
 use Prim.Native.Nat.{_-_, _≤_}
 use lib.ListN.{length, length-set}

@@ -1,4 +1,4 @@
--- `tighten::buffer::list_all` meets its contract. Assumes nothing.
+-- `tighten::buffer::list_all` meets its contract.
 use mathlib.Core.Path.{_≡_}
 use native.Mathlib.Omega.{arith}
 use Prim.Native.Nat.{_-_, _≤_}

@@ -1,4 +1,4 @@
--- `tighten::buffer::load` meets its contract. Assumes nothing.
+-- `tighten::buffer::load` meets its contract.
 use native.Mathlib.Omega.{arith}
 use mathlib.Core.Path.{_≡_, refl}
 use Prim.Native.Nat.{_-_, _≤_}

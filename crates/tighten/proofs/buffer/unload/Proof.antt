@@ -1,4 +1,4 @@
--- `tighten::buffer::unload` meets its contract. Assumes nothing.
+-- `tighten::buffer::unload` meets its contract.
 use native.Mathlib.Omega.{arith}
 use mathlib.Core.Path.{_≡_, refl, ap, _∙_}
 use Prim.Native.Nat.{_-_, _≤_}

@@ -1,4 +1,4 @@
--- `tighten::rule::apply` meets its contract. Assumes nothing.
+-- `tighten::rule::apply` meets its contract.
 use Rattle.tighten.proofs.Ready.{has-widths, small, asked, applied}
 use borrow.Author.Needs.{needs}
 use Rattle.tighten.proofs.rule.apply.Statement.{statement}

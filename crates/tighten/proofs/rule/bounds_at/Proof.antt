@@ -1,4 +1,4 @@
--- `tighten::rule::bounds_at` meets its contract. Assumes nothing.
+-- `tighten::rule::bounds_at` meets its contract.
 use mathlib.Core.Path.{refl}
 use Rattle.tighten.specs.Meeting.{boundsAt}
 use borrow.Author.Needs.{needs}

@@ -1,4 +1,4 @@
--- `tighten::rule::meet` meets its contract. Assumes nothing.
+-- `tighten::rule::meet` meets its contract.
 use native.Mathlib.Omega.{arith}
 use lib.ListN.{length-set}
 use Rattle.tighten.specs.Meeting.{metBy}

@@ -1,4 +1,4 @@
--- `tighten::rule::meet_all` meets its contract. Assumes nothing.
+-- `tighten::rule::meet_all` meets its contract.
 use Rattle.tighten.specs.Meeting.{metAll}
 use borrow.Author.Needs.{needs}
 use Rattle.tighten.proofs.rule.meet_all.Statement.{statement}

@@ -1,4 +1,4 @@
--- `tighten::rule::numbers_at` meets its contract. Assumes nothing.
+-- `tighten::rule::numbers_at` meets its contract.
 use Rattle.tighten.specs.Meeting.{numbersAt}
 use borrow.Author.Needs.{needs}
 use Rattle.tighten.proofs.rule.numbers_at.Statement.{statement}

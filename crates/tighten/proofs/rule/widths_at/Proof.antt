@@ -1,4 +1,4 @@
--- `tighten::rule::widths_at` meets its contract. Assumes nothing.
+-- `tighten::rule::widths_at` meets its contract.
 use mathlib.Core.Path.{refl}
 use Rattle.tighten.specs.Meeting.{widthsAt}
 use borrow.Author.Needs.{needs}

@@ -1,4 +1,4 @@
--- `writer::block::end_block` meets its contract: header, limit, zeros and check. Assumes nothing.
+-- `writer::block::end_block` meets its contract: header, limit, zeros and check.
 use native.Mathlib.Omega.{arith}
 use borrow.Author.Needs.{needs}
 use Rattle.blocks.specs.Bytes.{le}

@@ -1,4 +1,4 @@
--- `writer::bytes::finish` meets its contract. Assumes nothing.
+-- `writer::bytes::finish` meets its contract.
 use native.Mathlib.Omega.{arith}
 use borrow.Author.Needs.{needs}
 use lib.ListN.{length-set}

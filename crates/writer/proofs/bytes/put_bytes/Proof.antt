@@ -1,4 +1,4 @@
--- `writer::bytes::put_bytes` meets its contract: the bytes passed are put. Assumes nothing.
+-- `writer::bytes::put_bytes` meets its contract: the bytes passed are put.
 use mathlib.Core.Path.{_≡_, refl}
 use Prim.Native.Nat.{_-_, _≤_}
 use borrow.Author.Needs.{needs}

@@ -1,4 +1,4 @@
--- `writer::bytes::put_head` meets its contract. Assumes nothing.
+-- `writer::bytes::put_head` meets its contract.
 use borrow.Author.Needs.{needs}
 use Rattle.blocks.specs.Bytes.{le}
 use Rattle.blocks.specs.Written.{headed}

@@ -1,4 +1,4 @@
--- `writer::bytes::put_number` meets its contract: the bytes passed are put, and the rest of them is left in `y`. Assumes nothing.
+-- `writer::bytes::put_number` meets its contract: the bytes passed are put, and the rest of them is left in `y`.
 use mathlib.Core.Path.{_≡_, refl}
 use Prim.Native.Nat.{_-_, _≤_}
 use native.Mathlib.Omega.{arith}

@@ -1,4 +1,4 @@
--- `writer::bytes::put_zeros` meets its contract: the zeros passed are put. Assumes nothing.
+-- `writer::bytes::put_zeros` meets its contract: the zeros passed are put.
 use mathlib.Core.Path.{_≡_, refl, sym}
 use Prim.Native.Nat.{_-_, _≤_}
 use native.Mathlib.Omega.{arith}

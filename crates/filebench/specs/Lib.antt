@@ -1,4 +1,0 @@
-pub mod Pairs
-pub mod Runs
-pub mod Says
-pub mod Called

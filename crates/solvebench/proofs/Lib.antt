@@ -1,4 +1,0 @@
-pub mod Lists
-pub mod Solves
-pub mod Causes
-pub mod Explains

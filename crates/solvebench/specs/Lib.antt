@@ -1,3 +1,0 @@
-pub mod ListTold
-pub mod Says
-pub mod Replies
