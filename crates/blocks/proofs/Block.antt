@@ -2,16 +2,16 @@
 use mathlib.Core.Path.{_≡_, refl, sym, ap, _∙_}
 use mathlib.Core.Logic.{_≢_}
 use mathlib.Core.List.{List, _∷_, _++_}
-use Prim.Native.Nat.{ℕ, _+_, _-_, _*_, _/_, _%_, _<_, _≤_}
+use Prim.Native.Nat.{ℕ, _+_, _*_, _/_, _%_, _<_, _≤_, _-_}
 use native.Mathlib.Omega.{arith}
 use lib.ListN.{length, drop, length-append}
 use lib.Seq.{drop-cons}
-use Rattle.words.specs.Table.{at}
-use Rattle.blocks.specs.Bytes.{le, zeros, Under}
+use Rattle.lists.specs.Lists.{at, zeros, Under}
+use Rattle.blocks.specs.Bytes.{le}
 use Rattle.blocks.specs.Edition.{Edition}
 use Rattle.blocks.specs.Block.{Sound, Header}
 use Rattle.blocks.specs.Written.{seal, headed, block}
-use Rattle.blocks.proofs.Pieces.{length-zeros}
+use Rattle.lists.proofs.Pieces.{length-zeros}
 use Rattle.blocks.proofs.Numbers.{low-byte, high-byte}
 use Rattle.blocks.proofs.Seal.{checked, at-other, seal-sound, seal-blank}
 

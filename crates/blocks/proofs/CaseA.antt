@@ -7,7 +7,8 @@ use lib.ListN.{length}
 use Rattle.checker.specs.Tests.{sized}
 use Rattle.checker.specs.Refusal.{firstOf, refusal, refusalWith}
 use Rattle.blocks.specs.declared.Written.{Written}
-use Rattle.blocks.specs.Bytes.{le, put, zeros, flat, total}
+use Rattle.blocks.specs.Bytes.{le}
+use Rattle.lists.specs.Lists.{put, zeros, flat, total}
 use Rattle.blocks.specs.Edition.{edition1}
 use Rattle.blocks.specs.Block.{sum}
 use Rattle.blocks.specs.Written.{seal, blocksFor, headed, block, blocksOf, fileOf, encode}

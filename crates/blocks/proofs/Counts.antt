@@ -1,12 +1,12 @@
 -- How many blocks n records take, k to a block, and how many of them each block holds.
 use mathlib.Core.Path.{_≡_, sym, ap, _∙_}
-use Prim.Native.Nat.{ℕ, zero, suc, _+_, _-_, _*_, _/_, _%_, _<_, _≤_, min}
+use Prim.Native.Nat.{ℕ, zero, suc, _+_, _*_, _/_, _%_, _<_, _≤_, min, _-_}
 use native.Mathlib.Nat.{mul-suc, mul-zero, suc-mul, mul-comm, le-div-iff-mul-le, mod-eq-of-lt, mul-add-mod-self-left}
 use native.Mathlib.Decide.{decLt}
 use native.Mathlib.Omega.{arith}
-use Rattle.blocks.specs.Bytes.{total}
+use Rattle.lists.specs.Lists.{total}
 use Rattle.blocks.specs.Written.{held, blocksFor}
-use Rattle.blocks.proofs.Pieces.{total-none, total-more}
+use Rattle.lists.proofs.Pieces.{total-none, total-more}
 
 module _ (k : ℕ) (some : 0 < k) where
   -- there is a block q just where the blocks before it do not hold all

@@ -6,20 +6,21 @@ use native.Mathlib.Nat.{add-zero}
 use native.Mathlib.Numerals.{add-one}
 use native.Mathlib.Omega.{arith}
 use lib.ListN.{length}
-use Rattle.words.specs.Table.{at}
+use Rattle.lists.specs.Lists.{at, part, zeros, flat, Under}
 use Rattle.checker.specs.Lent.{widthAt, ruleAt}
-use Rattle.blocks.specs.Bytes.{le, number, part, zeros, flat, Under}
+use Rattle.blocks.specs.Bytes.{le, number}
 use Rattle.blocks.specs.Records.{ruleBytes, wordRecord, ruleRecord}
 use Rattle.blocks.specs.Edition.{edition1}
 use Rattle.blocks.specs.Block.{Clear}
 use Rattle.blocks.specs.Written.{blocksFor, wordBlocks, ruleBlocks}
 use Rattle.blocks.specs.Decode.{slot, wordsIn, rulesIn}
-use Rattle.blocks.proofs.Parts.{at-part, length-part, part-cons, part-part}
-use Rattle.blocks.proofs.Pieces.{flat-parts, flat-pieces, flat-same}
+use Rattle.lists.proofs.Parts.{at-part, length-part, part-cons, part-part}
+use Rattle.lists.proofs.Pieces.{flat-parts, flat-pieces, flat-same}
 use Rattle.blocks.proofs.Numbers.{length-le, number-le, part-le}
 use Rattle.blocks.proofs.Records.{clear-part}
 use Rattle.blocks.proofs.Sequence.{rawAt}
-use Rattle.blocks.proofs.Items.{at-series, word-items, rule-item}
+use Rattle.lists.proofs.Series.{series-at}
+use Rattle.blocks.proofs.Items.{word-items, rule-item}
 
 -- word j is three items, one after the other
 slot-word : (j x : ℕ) → x < 3 → 512 * (0 + j / 21) + (8 + 24 * (j % 21)) + 8 * x ≡ slot (3 * j + x)
@@ -45,7 +46,7 @@ module _ (f : List ℕ) (n : ℕ) (long : 512 * wordBlocks edition1 n ≤ length
       let inside = slot-inside (3 * j) (omega arith) in
       let rest = clear-part f (a + 1) 7 (a + 8) (omega arith) (omega arith) z in
       let e : part f a 8 ≡ at f a ∷ zeros 7 = part-cons f a 7 (omega arith) ∙ ap (λ t. at f a ∷ t) (rw (← add-one a) rest) in
-      rw (at-series (3 * n) (λ x. number (part f (slot x) 8)) (3 * j) (omega arith), e) (omega (arith, u .each a))
+      rw (series-at 0 (3 * n) (3 * j) (λ x. number (part f (slot x) 8)) (omega arith), e) (omega (arith, u .each a))
 
   pub word-decoded : Under 256 f → (j : ℕ) → j < n → widthAt (wordsIn f n) j < 256 → rawAt (edition1 .words) f 0 j ≡ wordRecord (wordsIn f n) j
   unfolding wordsIn
@@ -54,7 +55,7 @@ module _ (f : List ℕ) (n : ℕ) (long : 512 * wordBlocks edition1 n ≤ length
       item : (x : ℕ) → x < 3 → part f (slot (3 * j + x)) 8 ≡ le 8 (at (wordsIn f n) (3 * j + x))
       item x g =
           part-le f (slot (3 * j + x)) 8 u (slot-inside (3 * j + x) (omega arith))
-          ∙ ap (le 8) (sym (at-series (3 * n) (λ y. number (part f (slot y) 8)) (3 * j + x) (omega arith)))
+          ∙ ap (le 8) (sym (series-at 0 (3 * n) (3 * j + x) (λ y. number (part f (slot y) 8)) (omega arith)))
 
   -- from the numbers to the file
   pub word-encoded : (ws : List ℕ) → Under (2 ^ 64) ws → (j : ℕ) → j < n → widthAt ws j < 256 → rawAt (edition1 .words) f 0 j ≡ wordRecord ws j
@@ -90,7 +91,7 @@ module _ (f : List ℕ) (n m : ℕ) (long : 512 * (wordBlocks edition1 n + ruleB
       let a : (6 * j + x) / 6 ≡ j = omega arith in
       let b : (6 * j + x) % 6 ≡ x = omega arith in
       at-part f (place j) 8 x (omega arith)
-      ∙ sym (at-series (6 * m) (λ y. at f (512 * wordBlocks edition1 n + slot (y / 6) + y % 6)) (6 * j + x) (omega arith) ∙ rw (a, b))
+      ∙ sym (series-at 0 (6 * m) (6 * j + x) (λ y. at f (512 * wordBlocks edition1 n + slot (y / 6) + y % 6)) (omega arith) ∙ rw (a, b))
 
   pub rule-decoded : (j : ℕ) → j < m → Clear f (place j + 6) (place j + 8) → rawAt (edition1 .rules) f (wordBlocks edition1 n) j ≡ ruleRecord (rulesIn f n m) j
   unfolding ruleRecord

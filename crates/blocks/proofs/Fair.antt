@@ -5,14 +5,13 @@ use Prim.Native.Nat.{ℕ, suc, zero, _+_, _*_, _<_, _≤_}
 use native.Mathlib.Nat.{mul-le-mul-right, mul-le-mul-left}
 use native.Mathlib.Omega.{arith}
 use lib.ListN.{length, length-append}
-use Rattle.words.specs.Table.{at}
+use Rattle.lists.specs.Lists.{at, zeros}
 use Rattle.rules.specs.Tight.{Rule}
-use Rattle.blocks.specs.Bytes.{zeros}
 use Rattle.blocks.specs.Records.{wordBytes, ruleBytes, wordRecord, ruleRecord}
 use Rattle.blocks.specs.Edition.{Form, Edition, edition1}
 use Rattle.rules.specs.ProperProblem.{most-words, most-rules}
 use Rattle.blocks.specs.Written.{blocksFor, wordBlocks, ruleBlocks}
-use Rattle.blocks.proofs.Pieces.{length-zeros, at-zeros}
+use Rattle.lists.proofs.Pieces.{length-zeros, at-zeros}
 use Rattle.blocks.proofs.Numbers.{length-le}
 
 -- a record has at least eight bytes, a full block has one or more records, and they fit

@@ -5,12 +5,13 @@ use Prim.Native.Nat.{ℕ, _+_, _*_, _<_}
 use native.Mathlib.Nat.{zero-add, add-zero}
 use native.Mathlib.Omega.{arith}
 use lib.ListN.{length, length-append}
-use Rattle.words.specs.Table.{at}
-use Rattle.blocks.specs.Bytes.{le, part}
+use Rattle.lists.specs.Lists.{at, part}
+use Rattle.blocks.specs.Bytes.{le}
 use Rattle.blocks.specs.Edition.{Edition}
 use Rattle.blocks.specs.File.{blockAt, ProperFile}
 use Rattle.blocks.specs.Written.{block, blocksOf, wordBlocks, ruleBlocks, fileOf}
-use Rattle.blocks.proofs.Parts.{length-part, part-add, part-all, part-left, part-right, under-part}
+use Rattle.lists.proofs.Parts.{length-part, part-add, part-all, part-left, part-right}
+use Rattle.lists.proofs.Unders.{under-part}
 use Rattle.blocks.proofs.Numbers.{length-le}
 use Rattle.blocks.proofs.Block.{length-block}
 use Rattle.blocks.proofs.Fair.{Fair}

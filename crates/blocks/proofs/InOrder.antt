@@ -5,12 +5,12 @@ use Prim.Native.Nat.{ℕ, zero, suc, _+_, _*_, _%_, _<_}
 use native.Mathlib.Nat.{mul-suc, mul-zero, mul-le-mul-left}
 use native.Mathlib.Decide.{decLt}
 use native.Mathlib.Omega.{arith}
-use Rattle.blocks.specs.Bytes.{total}
+use Rattle.lists.specs.Lists.{total}
 use Rattle.blocks.specs.Edition.{Form, Edition}
 use Rattle.blocks.specs.Block.{RecordBlock}
 use Rattle.blocks.specs.File.{blockAt, countAt, Blocks}
 use Rattle.blocks.specs.Written.{held, blocksFor}
-use Rattle.blocks.proofs.Pieces.{total-none, total-more}
+use Rattle.lists.proofs.Pieces.{total-none, total-more}
 use Rattle.blocks.proofs.Fair.{Fits}
 use Rattle.blocks.proofs.Counts.{blocks-exact, blocks-nothing, full-last}
 

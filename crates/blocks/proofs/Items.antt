@@ -1,45 +1,16 @@
--- Lent numbers as a list by their places, and the records of edition 1 as items of eight bytes.
-use mathlib.Core.Path.{_≡_, refl, sym, ap, _∙_}
+-- The records of edition 1 as items of eight bytes.
+use mathlib.Core.Path.{_≡_, sym, ap, _∙_}
 use mathlib.Core.List.{List, [], _∷_, _++_, append-assoc}
-use Prim.Native.Nat.{ℕ, zero, suc, _+_, _*_, _/_, _%_, _<_}
+use Prim.Native.Nat.{ℕ, _+_, _*_, _/_, _%_, _<_}
 use native.Mathlib.Nat.{add-zero}
-use native.Mathlib.Decide.{decLt}
 use native.Mathlib.Omega.{arith}
-use lib.ListN.{length, drop, drop-of-length-le, List·getD-eq-default}
-use lib.Seq.{ext-getD}
-use Rattle.words.specs.Table.{at}
+use lib.ListN.{length, drop, drop-of-length-le}
+use Rattle.lists.specs.Lists.{at, zeros, flat}
 use Rattle.rules.specs.Tight.{Rule}
-use Rattle.checker.specs.Lent.{series, widthAt, loAt, hiAt}
-use Rattle.blocks.specs.Bytes.{le, zeros, flat, Under}
+use Rattle.checker.specs.Lent.{widthAt, loAt, hiAt}
+use Rattle.blocks.specs.Bytes.{le}
 use Rattle.blocks.specs.Records.{wordBytes, ruleBytes, wordRecord}
 use Rattle.blocks.proofs.Block.{eight}
-
--- ---- lists by their places
-
-pub length-series : (n : ℕ) (g : ℕ → ℕ) → length (series n g) ≡ n
-unfolding series
-length-series zero g = refl
-length-series (suc n) g = ap suc (length-series n (λ i. g (suc i)))
-
-pub at-series : (n : ℕ) (g : ℕ → ℕ) (j : ℕ) → j < n → at (series n g) j ≡ g j
-unfolding series
-at-series zero g j h = absurd (omega arith)
-at-series (suc n) g zero h = refl
-at-series (suc n) g (suc j) h = at-series n (λ i. g (suc i)) j (omega arith)
-
-pub under-series : (k n : ℕ) (g : ℕ → ℕ) → 0 < k → ((j : ℕ) → j < n → g j < k) → Under k (series n g)
-under-series k n g p h = record { each = λ j. go j (decLt j n) }
-  where
-    go : (j : ℕ) → Dec (j < n) → at (series n g) j < k
-    go j (yes l) = rw (at-series n g j l) (h j l)
-    go j (no l) = rw (List·getD-eq-default (series n g) 0 {n = j} (rw length-series (omega arith))) p
-
--- a list with these elements
-pub series-is : (l : List ℕ) (n : ℕ) (g : ℕ → ℕ) → length l ≡ n → ((j : ℕ) → j < n → g j ≡ at l j) → series n g ≡ l
-series-is l n g e h =
-    ext-getD 0 (series n g) l (length-series n g ∙ sym e) (λ j q. let q′ : j < n = rw length-series at q in at-series n g j q′ ∙ h j q′)
-
--- ---- records
 
 -- a number below 256 and seven zeros
 pub small-item : (w : ℕ) → w < 256 → le 8 w ≡ w ∷ zeros 7

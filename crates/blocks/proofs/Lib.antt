@@ -1,9 +1,6 @@
-pub mod Parts
-pub mod Pieces
 pub mod Numbers
 pub mod Seal
 pub mod Sum
-pub mod Put
 pub mod Block
 pub mod Fair
 pub mod Records

@@ -1,19 +1,21 @@
 -- The machine accepts exactly the beginnings of proper files.
 use mathlib.Core.Path.{_≡_, sym, ap, _∙_, subst}
 use mathlib.Core.List.{List, _++_}
-use Prim.Native.Nat.{ℕ, zero, suc, _+_, _-_, _*_, _<_, _≤_}
+use Prim.Native.Nat.{ℕ, zero, suc, _+_, _*_, _<_, _≤_, _-_}
 use native.Mathlib.Nat.{zero-add, add-zero, add-suc}
 use native.Mathlib.Decide.{decLt}
 use native.Mathlib.Omega.{arith}
 use lib.ListN.{length, length-append}
-use Rattle.blocks.specs.Bytes.{le, part, Under}
+use Rattle.blocks.specs.Bytes.{le}
+use Rattle.lists.specs.Lists.{part, Under}
 use Rattle.blocks.specs.Edition.{Edition}
 use Rattle.blocks.specs.File.{blockAt, Begins}
 use Rattle.blocks.specs.Machine.{Run, start, more-words, more-rules, Ended, end, Accepted, going, ended}
 use Rattle.blocks.specs.Written.{block}
-use Rattle.blocks.proofs.Parts.{length-part, part-all, part-left, part-part, part-right, under-part}
+use Rattle.lists.proofs.Parts.{length-part, part-all, part-left, part-part, part-right}
+use Rattle.lists.proofs.Unders.{under-part, under-append}
 use Rattle.blocks.proofs.Numbers.{length-le}
-use Rattle.blocks.proofs.Under.{under-append, under-block, under-le}
+use Rattle.blocks.proofs.Under.{under-block, under-le}
 use Rattle.blocks.proofs.Block.{length-block}
 use Rattle.blocks.proofs.Fair.{Fair}
 use Rattle.blocks.proofs.Records.{block-end}

@@ -4,13 +4,14 @@ use mathlib.Core.List.{List, _++_}
 use Prim.Native.Nat.{ℕ, _+_, _*_, _^_, _<_, _≤_}
 use native.Mathlib.Omega.{arith}
 use lib.ListN.{length}
-use Rattle.words.specs.Table.{at}
-use Rattle.blocks.specs.Bytes.{le, Under}
+use Rattle.lists.specs.Lists.{at, Under}
+use Rattle.blocks.specs.Bytes.{le}
 use Rattle.blocks.specs.Edition.{Form, Edition}
 use Rattle.rules.specs.ProperProblem.{most-words, most-rules}
 use Rattle.blocks.specs.File.{ProperFile}
 use Rattle.blocks.specs.Written.{held, blocksOf, wordBlocks, ruleBlocks, fileOf}
-use Rattle.blocks.proofs.Under.{under-append, under-block, under-flat, under-le}
+use Rattle.lists.proofs.Unders.{under-append, under-flat}
+use Rattle.blocks.proofs.Under.{under-block, under-le}
 use Rattle.blocks.proofs.Fair.{Fair}
 use Rattle.blocks.proofs.Records.{block-end}
 use Rattle.blocks.proofs.Counts.{blocks-rise}

@@ -5,8 +5,10 @@ use Prim.Native.Nat.{ℕ, zero, suc, _+_, _*_, _/_, _%_, _^_, _<_, _≤_}
 use native.Mathlib.Nat.{pow-suc, one-le-pow}
 use native.Mathlib.Omega.{arith}
 use lib.ListN.{length}
-use Rattle.blocks.specs.Bytes.{le, number, part, Under}
-use Rattle.blocks.proofs.Parts.{length-part, under-part}
+use Rattle.blocks.specs.Bytes.{le, number}
+use Rattle.lists.specs.Lists.{part, Under}
+use Rattle.lists.proofs.Parts.{length-part}
+use Rattle.lists.proofs.Unders.{under-part}
 
 pub length-le : (k x : ℕ) → length (le k x) ≡ k
 unfolding le

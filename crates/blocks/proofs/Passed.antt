@@ -9,9 +9,10 @@ use Rattle.checker.specs.declared.Checked.the-variants.{Ok}
 use Rattle.checker.specs.Lent.{wordCount, widthAt}
 use Rattle.checker.specs.Refusal.{refusalWith}
 use Rattle.checker.specs.Promise.{Fine}
-use Rattle.checker.proofs.Series.{length-series, width-at}
+use Rattle.lists.proofs.Series.{length-series}
+use Rattle.checker.proofs.Series.{width-at}
 use Rattle.checker.proofs.Right.{ok-fine}
-use Rattle.blocks.specs.Bytes.{Under}
+use Rattle.lists.specs.Lists.{Under}
 use Rattle.blocks.specs.Written.{Storable}
 
 -- numbers as a slice of u64 and a slice of u8 hold them

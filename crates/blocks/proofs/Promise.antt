@@ -3,7 +3,7 @@ use mathlib.Core.Path.{_≡_, refl, sym, _∙_}
 use mathlib.Core.List.{List}
 use Prim.Native.Nat.{ℕ}
 use native.Mathlib.Omega.{arith}
-use Rattle.checker.specs.declared.Checked.{Checked}
+use Rattle.checker.proofs.Firsts.{refused-not-ok}
 use Rattle.blocks.specs.declared.Reading.{Reading}
 use Rattle.blocks.specs.declared.Written.{Written}
 use Rattle.blocks.specs.Edition.{edition1}
@@ -13,9 +13,6 @@ use Rattle.blocks.specs.Promise.{Reads, Writes}
 use Rattle.blocks.proofs.Fair.{fair1}
 use Rattle.blocks.proofs.Faults.{fault-once, proper-whole, proper-faultless}
 use Rattle.blocks.proofs.ReadBack.{file-proper, one-problem}
-
-refused-ok : {n i : ℕ} {x : Checked} → x ≡ Checked.Refused n i → x ≡ Checked.Ok → ⊥
-refused-ok p q = let z : _≡_ {A = ℕ} 0 1 = cc in omega arith
 
 module _ {limit : ℕ} {ws bs f : List ℕ} (is : IsFile edition1 limit ws bs f) where
   pub file-whole : Whole edition1 f
@@ -39,10 +36,10 @@ read-once (Reads.refused r is j p q) (Reads.fault r′ w x p′ q′) = absurd (
 read-once (Reads.refused r is j p q) (Reads.refused r′ is′ j′ p′ q′) =
     let (l, w, b) = one-problem is is′ in
     (cc, p ∙ sym p′, q ∙ sym q′)
-read-once (Reads.refused r is j p q) (Reads.ok r′ is′ j′ e p′ q′) = let (l, w, b) = one-problem is is′ in absurd (refused-ok j (cc))
+read-once (Reads.refused r is j p q) (Reads.ok r′ is′ j′ e p′ q′) = let (l, w, b) = one-problem is is′ in absurd (refused-not-ok j (cc))
 read-once (Reads.ok r is j e p q) (Reads.size n p′ q′) = absurd (n (r, file-whole is))
 read-once (Reads.ok r is j e p q) (Reads.fault r′ w x p′ q′) = absurd (file-faultless is x)
-read-once (Reads.ok r is j e p q) (Reads.refused r′ is′ j′ p′ q′) = let (l, w, b) = one-problem is is′ in absurd (refused-ok j′ (cc))
+read-once (Reads.ok r is j e p q) (Reads.refused r′ is′ j′ p′ q′) = let (l, w, b) = one-problem is is′ in absurd (refused-not-ok j′ (cc))
 read-once (Reads.ok r is j e p q) (Reads.ok r′ is′ j′ e′ p′ q′) =
     let (l, w, b) = one-problem is is′ in
     (cc, cc, cc)
@@ -54,7 +51,7 @@ write-once (Writes.size n p) (Writes.refused r j p′) = absurd (n r)
 write-once (Writes.size n p) (Writes.ok r j k p′) = absurd (n r)
 write-once (Writes.refused r j p) (Writes.size n p′) = absurd (n r)
 write-once (Writes.refused r j p) (Writes.refused r′ j′ p′) = (cc, p ∙ sym p′)
-write-once (Writes.refused r j p) (Writes.ok r′ j′ k p′) = absurd (refused-ok j j′)
+write-once (Writes.refused r j p) (Writes.ok r′ j′ k p′) = absurd (refused-not-ok j j′)
 write-once (Writes.ok r j k p) (Writes.size n p′) = absurd (n r)
-write-once (Writes.ok r j k p) (Writes.refused r′ j′ p′) = absurd (refused-ok j′ j)
+write-once (Writes.ok r j k p) (Writes.refused r′ j′ p′) = absurd (refused-not-ok j′ j)
 write-once (Writes.ok r j k p) (Writes.ok r′ j′ k′ p′) = (cc, p ∙ sym p′)

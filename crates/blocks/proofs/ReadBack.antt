@@ -4,21 +4,22 @@ use mathlib.Core.List.{List, _∷_}
 use Prim.Native.Nat.{ℕ, _+_, _*_, _/_, _%_, _<_}
 use native.Mathlib.Omega.{arith}
 use lib.ListN.{length}
-use Rattle.words.specs.Table.{at}
+use Rattle.lists.specs.Lists.{at, part, zeros, Under}
 use Rattle.checker.specs.Lent.{wordCount, ruleCount}
-use Rattle.blocks.specs.Bytes.{le, number, part, zeros, Under}
+use Rattle.blocks.specs.Bytes.{le, number}
 use Rattle.blocks.specs.Records.{wordBytes, ruleBytes, wordRecord, ruleRecord}
 use Rattle.blocks.specs.Edition.{edition1}
 use Rattle.blocks.specs.File.{ProperFile}
 use Rattle.blocks.specs.Written.{encode, wordBlocks, ruleBlocks, Storable, IsFile}
 use Rattle.blocks.specs.Decode.{slot, wordsIn, rulesIn}
-use Rattle.blocks.proofs.Under.{under-append, under-cons, under-le, under-zeros}
+use Rattle.lists.proofs.Unders.{under-append, under-cons, under-zeros}
+use Rattle.blocks.proofs.Under.{under-le}
 use Rattle.blocks.proofs.Fair.{fair1}
 use Rattle.blocks.proofs.Once.{proper-once}
 use Rattle.blocks.proofs.Sequence.{rawAt}
 use Rattle.blocks.proofs.Files.{length-file, word-there, rule-there}
 use Rattle.blocks.proofs.Made.{Made, bytes-proper}
-use Rattle.blocks.proofs.Items.{series-is}
+use Rattle.lists.proofs.Series.{series-is}
 use Rattle.blocks.proofs.Decoded.{word-encoded, rule-encoded}
 
 -- whatever the lent numbers are

@@ -1,17 +1,18 @@
 -- A block of records, and an end block, as the paper says them, are just the blocks of those bytes.
 use mathlib.Core.Path.{_≡_, sym, ap, _∙_, subst}
 use mathlib.Core.List.{List, _++_}
-use Prim.Native.Nat.{ℕ, _+_, _-_, _*_, _^_, _<_, _≤_}
+use Prim.Native.Nat.{ℕ, _+_, _*_, _^_, _<_, _≤_, _-_}
 use native.Mathlib.Omega.{arith}
 use lib.ListN.{length, drop, length-drop}
 use lib.Seq.{take-all, getD-drop, getD-append-add}
-use Rattle.words.specs.Table.{at}
-use Rattle.blocks.specs.Bytes.{le, number, part, zeros, flat, Under}
+use Rattle.lists.specs.Lists.{at, part, zeros, flat, Under}
+use Rattle.blocks.specs.Bytes.{le, number}
 use Rattle.blocks.specs.Edition.{Form, Edition}
 use Rattle.blocks.specs.Block.{Clear, RecordBlock, EndBlock}
 use Rattle.blocks.specs.Written.{block}
-use Rattle.blocks.proofs.Parts.{at-part, length-part, part-add, part-all, part-drop, part-left, short-part, under-part}
-use Rattle.blocks.proofs.Pieces.{flat-parts, length-flat, part-flat, all-zeros, at-zeros}
+use Rattle.lists.proofs.Parts.{at-part, length-part, part-add, part-all, part-drop, part-left, short-part}
+use Rattle.lists.proofs.Unders.{under-part}
+use Rattle.lists.proofs.Pieces.{flat-parts, length-flat, part-flat, all-zeros, at-zeros}
 use Rattle.blocks.proofs.Numbers.{length-le, number-le, number-under, part-le}
 use Rattle.blocks.proofs.Block.{block-header, block-rest, header-block}
 use Rattle.blocks.proofs.Fair.{Fits, in-block, few-records}

@@ -3,23 +3,19 @@ use mathlib.Core.Path.{_≡_, refl, sym, ap, _∙_, subst}
 use mathlib.Core.List.{List}
 use Prim.Native.Nat.{ℕ, _+_, _*_, _≤_}
 use native.Mathlib.Omega.{arith}
-use lib.ListN.{length, take, drop}
-use lib.Seq.{take-at}
+use lib.ListN.{length, take}
+use Rattle.lists.proofs.Puts.{put-take}
 use Rattle.checker.specs.declared.Checked.{Checked}
 use Rattle.checker.specs.Lent.{stride, fields, wordCount, ruleCount}
 use Rattle.blocks.specs.declared.Problem.{Problem}
 use Rattle.blocks.specs.declared.Reading.{Reading}
 use Rattle.blocks.specs.declared.Written.{Written}
-use Rattle.blocks.specs.Bytes.{put}
+use Rattle.lists.specs.Lists.{put}
 use Rattle.blocks.specs.Edition.{edition1}
 use Rattle.blocks.specs.Written.{encode, IsFile}
 use Rattle.blocks.specs.Promise.{Room, problemOf, Reads, Writes}
 use Rattle.blocks.proofs.Passed.{Slices, passed}
 use Rattle.blocks.proofs.Promise.{read-once, write-once}
-
--- what was put in front is there
-put-take : (a xs : List ℕ) (k : ℕ) → length xs ≡ k → take k (put a 0 xs) ≡ xs
-put-take a xs k e = take-at xs (drop (0 + length xs) a) k e
 
 pub write-read : {limit k : ℕ} {ws bs f g a b y z : List ℕ} {r : Reading} → Slices ws bs → Writes edition1 limit ws bs f g (Written.Ok k) → Room a b
     → Reads edition1 (take k g) a b y z r → (r ≡ Reading.Ok (problemOf limit ws bs)) × (y ≡ put a 0 ws) × (z ≡ put b 0 bs)

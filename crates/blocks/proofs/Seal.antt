@@ -2,15 +2,14 @@
 use mathlib.Core.Path.{_≡_, _∙_}
 use mathlib.Core.Logic.{_≢_}
 use mathlib.Core.List.{List}
-use Prim.Native.Nat.{ℕ, _+_, _-_, _*_, _/_, _%_, _<_, _≤_}
+use Prim.Native.Nat.{ℕ, _+_, _*_, _/_, _%_, _<_, _≤_, _-_}
 use native.Mathlib.Omega.{arith}
 use lib.ListN.{length, set, length-set}
 use lib.Seq.{getD-set-same, getD-set-other, set-set, set-comm, set-getD}
-use Rattle.words.specs.Table.{at}
-use Rattle.blocks.specs.Bytes.{Under}
+use Rattle.lists.specs.Lists.{at, Under}
 use Rattle.blocks.specs.Block.{sixteen, sum, Sound}
 use Rattle.blocks.specs.Written.{seal}
-use Rattle.blocks.proofs.Pieces.{total-one}
+use Rattle.lists.proofs.Pieces.{total-one}
 
 -- a block with its two check bytes set
 abbrev pub checked : List ℕ → ℕ → ℕ → List ℕ

@@ -5,14 +5,14 @@ use Prim.Native.Nat.{ℕ, _+_, _*_, _/_, _%_, _<_, _≤_}
 use native.Mathlib.Nat.{div-add-mod, mod-lt}
 use native.Mathlib.Omega.{arith}
 use lib.ListN.{length}
-use Rattle.words.specs.Table.{at}
-use Rattle.blocks.specs.Bytes.{part, flat, Under}
+use Rattle.lists.specs.Lists.{at, part, flat, Under}
 use Rattle.blocks.specs.Edition.{Form, Edition}
 use Rattle.blocks.specs.Block.{RecordBlock}
 use Rattle.blocks.specs.File.{blockAt, countAt, Blocks}
 use Rattle.blocks.specs.Written.{held, blocksFor, block, blocksOf}
-use Rattle.blocks.proofs.Parts.{length-part, part-part, under-part}
-use Rattle.blocks.proofs.Pieces.{flat-parts, flat-same, length-flat, part-flat, total-same}
+use Rattle.lists.proofs.Parts.{length-part, part-part}
+use Rattle.lists.proofs.Unders.{under-part}
+use Rattle.lists.proofs.Pieces.{flat-parts, flat-same, length-flat, part-flat, total-same}
 use Rattle.blocks.proofs.Block.{length-block}
 use Rattle.blocks.proofs.Fair.{Fits, in-block}
 use Rattle.blocks.proofs.Records.{raw, records-block, record-in, block-records}

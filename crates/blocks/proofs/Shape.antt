@@ -5,13 +5,13 @@ use Prim.Native.Nat.{ℕ, zero, suc, _+_, _*_, _≤_}
 use native.Mathlib.Nat.{zero-add, add-zero, add-suc, mul-mod-right}
 use native.Mathlib.Omega.{arith}
 use lib.ListN.{length}
-use Rattle.blocks.specs.Bytes.{Under}
+use Rattle.lists.specs.Lists.{Under}
 use Rattle.blocks.specs.Edition.{Edition}
 use Rattle.blocks.specs.Block.{RecordBlock, EndBlock}
 use Rattle.rules.specs.ProperProblem.{most-words, most-rules}
 use Rattle.blocks.specs.File.{blockAt, countAt, Blocks, ProperFile}
 use Rattle.blocks.specs.Machine.{Run, start, more-words, more-rules, Ended, end}
-use Rattle.blocks.proofs.Pieces.{total-none}
+use Rattle.lists.proofs.Pieces.{total-none}
 use Rattle.blocks.proofs.Fair.{Fair}
 use Rattle.blocks.proofs.Counts.{blocks-nothing, blocks-rise}
 use Rattle.blocks.proofs.InOrder.{blocks-none, blocks-less, blocks-more, blocks-number}

@@ -4,9 +4,9 @@ use mathlib.Core.List.{List}
 use Prim.Native.Nat.{ℕ, _+_, _%_, _^_, _≤_}
 use native.Mathlib.Numerals.{add-one}
 use native.Mathlib.Omega.{arith}
-use Rattle.blocks.specs.Bytes.{total}
+use Rattle.lists.specs.Lists.{total}
 use Rattle.blocks.specs.Block.{sixteen, sum}
-use Rattle.blocks.proofs.Pieces.{total-none, total-more}
+use Rattle.lists.proofs.Pieces.{total-none, total-more}
 
 pub sum-start : (b : List ℕ) → 0 ≡ total 0 (sixteen b) % 65536
 sum-start b = rw (total-none (sixteen b))

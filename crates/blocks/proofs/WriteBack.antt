@@ -1,21 +1,21 @@
 -- A proper file is the file of the problem read off it, byte by byte.
 use mathlib.Core.Path.{_≡_, sym, _∙_}
 use mathlib.Core.List.{List}
-use Prim.Native.Nat.{ℕ, _+_, _-_, _*_, _/_, _%_, _^_, _<_, _≤_}
+use Prim.Native.Nat.{ℕ, _+_, _*_, _/_, _%_, _^_, _<_, _≤_, _-_}
 use native.Mathlib.Nat.{div-add-mod, mod-lt}
 use native.Mathlib.Decide.{decLt}
 use native.Mathlib.Omega.{arith}
 use lib.ListN.{length, List·getD-eq-default}
-use Rattle.words.specs.Table.{at}
+use Rattle.lists.specs.Lists.{at, part}
 use Rattle.checker.specs.Lent.{wordCount, widthAt, ruleCount}
-use Rattle.blocks.specs.Bytes.{part}
 use Rattle.blocks.specs.Records.{wordRecord, ruleRecord}
 use Rattle.blocks.specs.Edition.{Form, edition1}
 use Rattle.blocks.specs.Block.{Clear}
 use Rattle.blocks.specs.File.{blockAt, Blocks, ProperFile}
 use Rattle.blocks.specs.Written.{wordBlocks, ruleBlocks, fileOf, encode, Storable, IsFile}
 use Rattle.blocks.specs.Decode.{slot, wordsIn, rulesIn}
-use Rattle.blocks.proofs.Parts.{at-part, short-part, under-part}
+use Rattle.lists.proofs.Parts.{at-part, short-part}
+use Rattle.lists.proofs.Unders.{under-part, under-series}
 use Rattle.blocks.proofs.Numbers.{number-under}
 use Rattle.blocks.proofs.Fair.{Fits, fair1}
 use Rattle.blocks.proofs.Counts.{block-there}
@@ -23,7 +23,7 @@ use Rattle.blocks.proofs.InOrder.{blocks-number, blocks-held}
 use Rattle.blocks.proofs.Sequence.{rawAt, blocksOf-same}
 use Rattle.blocks.proofs.Records.{limit-fits}
 use Rattle.blocks.proofs.Files.{proper-bytes}
-use Rattle.blocks.proofs.Items.{length-series, under-series}
+use Rattle.lists.proofs.Series.{length-series}
 use Rattle.blocks.proofs.Decoded.{small-width, word-decoded, rule-decoded}
 
 pub length-words : (f : List ℕ) (n : ℕ) → length (wordsIn f n) ≡ 3 * n

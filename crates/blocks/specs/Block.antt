@@ -2,8 +2,8 @@
 use mathlib.Core.Path.{_≡_}
 use mathlib.Core.List.{List}
 use Prim.Native.Nat.{ℕ, _+_, _*_, _%_, _<_, _≤_}
-use Rattle.words.specs.Table.{at}
-use Rattle.blocks.specs.Bytes.{number, part, total}
+use Rattle.lists.specs.Lists.{at, part, total}
+use Rattle.blocks.specs.Bytes.{number}
 use Rattle.blocks.specs.Edition.{Form, Edition}
 
 -- the sixteen-bit number j of a block

@@ -1,9 +1,9 @@
 -- Where the numbers of a problem stand in a file of edition 1. A block has room for 63 items of eight bytes: three make a word, one a rule.
 use mathlib.Core.List.{List}
 use Prim.Native.Nat.{ℕ, _+_, _*_, _/_, _%_}
-use Rattle.words.specs.Table.{at}
-use Rattle.checker.specs.Lent.{stride, fields, series}
-use Rattle.blocks.specs.Bytes.{number, part}
+use Rattle.lists.specs.Lists.{at, series, part}
+use Rattle.checker.specs.Lent.{stride, fields}
+use Rattle.blocks.specs.Bytes.{number}
 use Rattle.blocks.specs.Edition.{edition1}
 use Rattle.blocks.specs.Written.{wordBlocks}
 

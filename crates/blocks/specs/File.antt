@@ -4,7 +4,7 @@ use mathlib.Core.List.{List}
 use Prim.Native.Nat.{ℕ, suc, _+_, _*_, _/_, _%_, _<_, _≤_}
 use lib.ListN.{length}
 use Rattle.rules.specs.ProperProblem.{most-words, most-rules}
-use Rattle.blocks.specs.Bytes.{part, total, Under}
+use Rattle.lists.specs.Lists.{part, total, Under}
 use Rattle.blocks.specs.Edition.{Form, Edition}
 use Rattle.blocks.specs.Block.{sixteen, Sound, RecordBlock, EndBlock}
 

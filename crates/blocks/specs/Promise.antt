@@ -9,7 +9,7 @@ use Rattle.checker.specs.Demands.{SIZE, number}
 use Rattle.blocks.specs.declared.Problem.{Problem}
 use Rattle.blocks.specs.declared.Reading.{Reading}
 use Rattle.blocks.specs.declared.Written.{Written}
-use Rattle.blocks.specs.Bytes.{put}
+use Rattle.lists.specs.Lists.{put}
 use Rattle.blocks.specs.Edition.{Edition}
 use Rattle.rules.specs.ProperProblem.{most-words, most-rules}
 use Rattle.blocks.specs.File.{Whole, Fault}

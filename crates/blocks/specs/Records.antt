@@ -3,7 +3,8 @@ use mathlib.Core.List.{List, _∷_, _++_}
 use Prim.Native.Nat.{ℕ}
 use Rattle.rules.specs.Tight.{Rule}
 use Rattle.checker.specs.Lent.{widthAt, loAt, hiAt, ruleAt}
-use Rattle.blocks.specs.Bytes.{le, zeros}
+use Rattle.blocks.specs.Bytes.{le}
+use Rattle.lists.specs.Lists.{zeros}
 
 -- width, seven zeros, lo (8), hi (8)
 unfoldable pub wordBytes : ℕ → ℕ → ℕ → List ℕ

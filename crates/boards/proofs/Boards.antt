@@ -2,13 +2,14 @@
 use mathlib.Core.Path.{_≡_, refl, subst}
 use lib.Dec.{T}
 use Rattle.rules.specs.Kinds.{kindOf}
-use Rattle.rules.proofs.Lists.{All}
+use Rattle.lists.specs.Every.{All}
 use Rattle.rules.proofs.Steps.{tightened}
 use Rattle.search.proofs.Solved.{solved}
 use Rattle.search.proofs.TheCeiling.{some-ceiling}
 use Rattle.reasons.proofs.Explained.{explained}
 use Rattle.causes.proofs.Named.{named}
-use Rattle.blocks.specs.Bytes.{le, zeros, flat, total}
+use Rattle.blocks.specs.Bytes.{le}
+use Rattle.lists.specs.Lists.{zeros, flat, total}
 use Rattle.blocks.specs.Block.{sum}
 use Rattle.blocks.specs.Written.{seal, blocksFor, headed, block, blocksOf, fileOf, encode}
 use Rattle.boards.specs.Row.{Follows}

@@ -10,8 +10,8 @@ use Rattle.rules.specs.Rows.{uses}
 use Rattle.rules.specs.Tight.{rule, shape, span, Tight}
 use Rattle.rules.specs.Proper.{Proper}
 use Rattle.rules.specs.Tightening.{Widest, Tightened, TIGHT, CONFLICT, Tightens}
-use Rattle.rules.proofs.Lists.{All}
-use Rattle.rules.proofs.FitTest.{both}
+use Rattle.lists.specs.Every.{All}
+use Rattle.lists.proofs.Bools.{both}
 use Rattle.rules.proofs.Steps.{tightened}
 use Rattle.rules.proofs.Widest.{tightened-right}
 use Rattle.search.specs.Ceiling.{Ceiling}

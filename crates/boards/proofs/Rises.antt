@@ -2,7 +2,7 @@
 use mathlib.Core.Path.{_≡_, refl, subst}
 use mathlib.Core.List.{List, [], _∷_}
 use lib.Dec.{T}
-use Rattle.rules.proofs.Lists.{All}
+use Rattle.lists.specs.Every.{All}
 use Rattle.rules.proofs.OwnPlaces.{ne-self}
 use Rattle.search.specs.Search.{found, none}
 use Rattle.search.proofs.Solved.{solved}

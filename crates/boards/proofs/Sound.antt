@@ -7,7 +7,8 @@ use native.Mathlib.Omega.{arith}
 use lib.Dec.{T}
 use lib.ListN.{length}
 use Rattle.words.specs.Word.{bounded}
-use Rattle.words.specs.Table.{Table, at}
+use Rattle.words.specs.Table.{Table}
+use Rattle.lists.specs.Lists.{at}
 use Rattle.words.proofs.Order.{⊑-refl}
 use Rattle.words.proofs.Single.{bounded-sound}
 use Rattle.rules.specs.Kinds.{kindOf}
@@ -15,7 +16,7 @@ use Rattle.rules.specs.Rows.{class}
 use Rattle.rules.specs.Fits.{Legal}
 use Rattle.rules.specs.Tight.{Rule, word, shape, span}
 use Rattle.rules.specs.Proper.{Proper}
-use Rattle.rules.proofs.FitTest.{both}
+use Rattle.lists.proofs.Bools.{both}
 use Rattle.rules.proofs.ProperRules.{rule-legal}
 use Rattle.checker.specs.Tests.{isWidth, isKind, areFields, fitsAs}
 use Rattle.checker.proofs.TestsMet.{width-met, kind-met, fields-met, fits-met}

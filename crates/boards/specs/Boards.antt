@@ -1,12 +1,12 @@
 -- The starred boards of the product's paper, A to K, as one table. Where the paper names no limit, it is the greatest, 1,000,000.
 use mathlib.Core.List.{List, [], _∷_}
-use Prim.Native.Nat.{ℕ, _-_, _^_}
+use Prim.Native.Nat.{ℕ, _^_, _-_}
 use Rattle.rules.specs.Kinds.{A, B}
 use Rattle.rules.specs.Tight.{Rule}
 use Rattle.search.specs.Search.{found, none, gave-up}
 use Rattle.reasons.specs.Says.{FORCED}
 use Rattle.causes.specs.Cause.{CAUSE}
-use Rattle.blocks.specs.Bytes.{zeros}
+use Rattle.lists.specs.Lists.{zeros}
 use Rattle.boards.specs.Row.{Problem, Row, solve, ceiling, explain, cause, file}
 
 abbrev problem : List ℕ → List ℕ → List ℕ → List Rule → Problem

@@ -5,16 +5,16 @@ use mathlib.Core.List.{List, []}
 use Prim.Native.Nat.{ℕ, _+_, _≤_, _<_}
 use native.Mathlib.Omega.{arith}
 use lib.ListN.{length}
-use Rattle.words.specs.Table.{at}
+use Rattle.checker.proofs.Firsts.{refused-not-ok}
+use Rattle.lists.specs.Lists.{at, series}
 use Rattle.rules.proofs.Propers.{proper-inside}
-use Rattle.checker.specs.declared.Checked.{Checked}
 use Rattle.checker.specs.declared.Checked.the-variants.{Ok, Refused}
-use Rattle.checker.specs.Lent.{series, widthsOf, tableOf, ruleCount, ruleAt, rulesOf, wordCount}
+use Rattle.checker.specs.Lent.{widthsOf, tableOf, ruleCount, ruleAt, rulesOf, wordCount}
 use Rattle.checker.specs.Refusal.{refusalWith, room}
 use Rattle.checker.specs.Promise.{Fine}
 use Rattle.checker.proofs.Right.{ok-fine}
 use Rattle.checker.proofs.Rooms.{too-short, enough, has-room}
-use Rattle.checker.proofs.Series.{length-series, series-at}
+use Rattle.lists.proofs.Series.{length-series, series-at}
 use Rattle.tighten.specs.Memory.{tableIn, Numbered, Cleared}
 use Rattle.tighten.proofs.Calling.{all-chosen, all-listed}
 use Rattle.search.proofs.Limit.{answer-none, count-limit}
@@ -58,9 +58,6 @@ module _ (limit : ℕ) (ws bs s l : List ℕ) where
   nothing-refused g h e = record { passed = passed g h ∙ e }
 
 -- ---- what is not
-
-pub not-both : {n p : ℕ} {x : Checked} → x ≡ Refused n p → x ≡ Ok → ⊥
-not-both a b = let z : _≡_ {A = ℕ} 0 1 = cc in omega arith
 
 module _ {limit : ℕ} {ws bs s l : List ℕ} (given : Given limit ws bs s l) where
   both : (workLength ≤ length l) × (room (ruleCount bs) (length s) (refusalWith limit ws bs) ≡ Ok)
@@ -115,7 +112,7 @@ module _ {limit : ℕ} {ws bs s l : List ℕ} (given : Given limit ws bs s l) wh
       end-none e = record { given = given-again same-size; nothing = rw e at tried }
 
       pub end-trials : {x : Caused} {s′ l′ : List ℕ} → Causing limit ws bs s z x s′ l′ → Causing limit ws bs s l x s′ l′
-      end-trials (refused e) = absurd (not-both e (given-again {z = z} same-size .passed))
+      end-trials (refused e) = absurd (refused-not-ok e (given-again {z = z} same-size .passed))
       end-trials (exists-at g c x) = exists-at given c (cleared x)
       end-trials (gave-up-at g c x) = gave-up-at given c (cleared x)
       end-trials (caused-by g c q h x) = caused-by given c q h (cleared x)

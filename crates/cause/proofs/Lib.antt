@@ -1,5 +1,4 @@
 pub mod Shifting
-pub mod Lists
 pub mod Trying
 pub mod Trimming
 pub mod Calling

@@ -7,7 +7,7 @@ use native.Mathlib.Omega.{arith}
 use native.Mathlib.Decide.{ℕ-discrete}
 use lib.ListN.{length, take, length-take}
 use lib.Seq.{ext-getD, getD-take}
-use Rattle.words.specs.Table.{at}
+use Rattle.lists.specs.Lists.{at}
 use Rattle.rules.specs.Tight.{rule, AllHold}
 use Rattle.rules.proofs.Propers.{proper-inside}
 use Rattle.checker.specs.Lent.{widthsOf, tableOf, rulesOf}

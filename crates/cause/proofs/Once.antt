@@ -6,14 +6,14 @@ use native.Mathlib.Omega.{arith}
 use native.Mathlib.Decide.{decLt}
 use lib.ListN.{length}
 use lib.Seq.{ext-getD}
-use Rattle.words.specs.Table.{at}
+use Rattle.checker.proofs.Firsts.{refused-not-ok}
+use Rattle.lists.specs.Lists.{at}
 use Rattle.checker.specs.Lent.{widthsOf, tableOf, rulesOf}
 use Rattle.tighten.proofs.Once.{cleared-once}
 use Rattle.causes.specs.Cause.{Cause, EXISTS, CAUSE, GAVE-UP}
 use Rattle.causes.proofs.One.{one-cause}
 use Rattle.cause.specs.declared.Caused.{Caused}
 use Rattle.cause.specs.Promise.{Named, Entered, Causing, refused, exists-at, gave-up-at, caused-by}
-use Rattle.cause.proofs.Calling.{not-both}
 
 entered-once : {out s a b : List ℕ} → Entered out s a → Entered out s b → a ≡ b
 entered-once {out} {s} {a} {b} x y = ext-getD 0 a b (x .size ∙ sym (y .size)) (λ i h. go i (decLt i (length out)))
@@ -37,18 +37,18 @@ gave-up-not-cause e = let z : _≡_ {A = ℕ} 0 1 = cc in omega arith
 module _ {limit : ℕ} {ws bs s l : List ℕ} where
   pub cause-once : {x y : Caused} {a b k n : List ℕ} → Causing limit ws bs s l x a k → Causing limit ws bs s l y b n → (x ≡ y) × (a ≡ b) × (k ≡ n)
   cause-once (refused e) (refused e′) = (cc, refl, refl)
-  cause-once (refused e) (exists-at g c x) = absurd (not-both e (g .passed))
-  cause-once (refused e) (gave-up-at g c x) = absurd (not-both e (g .passed))
-  cause-once (refused e) (caused-by g c q h x) = absurd (not-both e (g .passed))
-  cause-once (exists-at g c x) (refused e) = absurd (not-both e (g .passed))
+  cause-once (refused e) (exists-at g c x) = absurd (refused-not-ok e (g .passed))
+  cause-once (refused e) (gave-up-at g c x) = absurd (refused-not-ok e (g .passed))
+  cause-once (refused e) (caused-by g c q h x) = absurd (refused-not-ok e (g .passed))
+  cause-once (exists-at g c x) (refused e) = absurd (refused-not-ok e (g .passed))
   cause-once (exists-at g c x) (exists-at g′ c′ x′) = let e = named-once limit ws bs c c′ in (cc, refl, cleared-once x x′)
   cause-once (exists-at g c x) (gave-up-at g′ c′ x′) = absurd (exists-not-gave-up (named-once limit ws bs c c′))
   cause-once (exists-at g c x) (caused-by g′ c′ q h x′) = absurd (exists-not-cause (named-once limit ws bs c c′))
-  cause-once (gave-up-at g c x) (refused e) = absurd (not-both e (g .passed))
+  cause-once (gave-up-at g c x) (refused e) = absurd (refused-not-ok e (g .passed))
   cause-once (gave-up-at g c x) (exists-at g′ c′ x′) = absurd (exists-not-gave-up (named-once limit ws bs c′ c))
   cause-once (gave-up-at g c x) (gave-up-at g′ c′ x′) = let e = named-once limit ws bs c c′ in (cc, refl, cleared-once x x′)
   cause-once (gave-up-at g c x) (caused-by g′ c′ q h x′) = absurd (gave-up-not-cause (named-once limit ws bs c c′))
-  cause-once (caused-by g c q h x) (refused e) = absurd (not-both e (g .passed))
+  cause-once (caused-by g c q h x) (refused e) = absurd (refused-not-ok e (g .passed))
   cause-once (caused-by g c q h x) (exists-at g′ c′ x′) = absurd (exists-not-cause (named-once limit ws bs c′ c))
   cause-once (caused-by g c q h x) (gave-up-at g′ c′ x′) = absurd (gave-up-not-cause (named-once limit ws bs c′ c))
   cause-once (caused-by {out = out} g c q h x) (caused-by {out = out′} {s′ = b} g′ c′ q′ h′ x′) =

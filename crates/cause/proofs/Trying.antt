@@ -2,17 +2,17 @@
 use mathlib.Core.Path.{_≡_, refl, sym, ap, _∙_}
 use mathlib.Core.Bool.{true, false}
 use mathlib.Core.List.{List, _∷_, _++_, map}
-use Prim.Native.Nat.{ℕ, zero, suc, _+_, _-_, _≤_, _<_}
+use Prim.Native.Nat.{ℕ, zero, suc, _+_, _≤_, _<_, _-_}
 use native.Mathlib.Numerals.{add-one}
 use native.Mathlib.Omega.{arith}
 use native.Mathlib.Decide.{decLt}
 use lib.ListN.{length, take}
-use Rattle.words.specs.Table.{at}
+use Rattle.lists.specs.Lists.{at, series}
 use Rattle.rules.specs.Tight.{rule}
-use Rattle.checker.specs.Lent.{series, ruleCount, ruleAt, rulesOf, wordCount}
+use Rattle.checker.specs.Lent.{ruleCount, ruleAt, rulesOf, wordCount}
 use Rattle.checker.proofs.Series.{rule-at}
 use Rattle.tighten.specs.Memory.{tableIn, chosen}
-use Rattle.tighten.proofs.Calling.{series-same}
+use Rattle.lists.proofs.Series.{series-same, series-add, series-take, series-map}
 use Rattle.searcher.specs.declared.Answer.{Answer}
 use Rattle.searcher.specs.declared.Answer.the-variants.{Found, Nothing, GaveUp}
 use Rattle.searcher.specs.Searching.{outcomeOf}
@@ -20,7 +20,6 @@ use Rattle.searcher.specs.Starting.{Asked, Sought}
 use Rattle.causes.specs.Cause.{trial}
 use Rattle.cause.specs.Listing.{keptIn, Removed, Inserted}
 use Rattle.cause.specs.Trials.{TriedFor, Trying, Left, Tries, dropped, kept-on, given-up}
-use Rattle.cause.proofs.Lists.{series-add, series-take, series-map}
 
 module _ {ws bs l : List ℕ} {n k : ℕ} (t : Trying ws bs l n k) {m : List ℕ} (x : Removed n k l m) where
   fewer : n + k < ruleCount bs

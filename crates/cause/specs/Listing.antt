@@ -3,8 +3,8 @@ use mathlib.Core.Path.{_≡_}
 use mathlib.Core.List.{List}
 use Prim.Native.Nat.{ℕ, _+_, _≤_, _<_}
 use lib.ListN.{length}
-use Rattle.words.specs.Table.{at}
-use Rattle.checker.specs.Lent.{series, ruleCount}
+use Rattle.lists.specs.Lists.{at, series}
+use Rattle.checker.specs.Lent.{ruleCount}
 
 -- the k numbers that stand after n others
 unfoldable pub keptIn : List ℕ → ℕ → ℕ → List ℕ

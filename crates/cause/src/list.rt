@@ -2,7 +2,7 @@
 ghost use mathlib.Core.Path.{_≡_};
 ghost use Prim.Native.Nat.{_+_, _<_, _≤_};
 ghost use lib.ListN.{length};
-ghost use Rattle.words.specs.Table.{at};
+ghost use Rattle.lists.specs.Lists.{at};
 ghost use Rattle.cause.specs.Listing.{Removed, Inserted, Held, Short};
 
 // The number after n others taken out: the k after it move down.

@@ -10,7 +10,8 @@ use lib.Seq.{getD-take, getD-append-add, length-take-le}
 use Rattle.words.specs.Table.{Table}
 use Rattle.rules.specs.Tight.{Rule, rule, none-rule, HoldsAt, Tight, AllHold}
 use Rattle.rules.proofs.Agree.{tight-agree}
-use Rattle.rules.proofs.Lists.{Any, here, there, any-none}
+use Rattle.lists.specs.Every.{Any, here, there}
+use Rattle.lists.proofs.Every.{any-none}
 use Rattle.search.specs.Settings.{Settings}
 use Rattle.search.specs.Search.{found}
 use Rattle.search.proofs.Right.{right}

@@ -8,7 +8,7 @@ use Rattle.words.specs.Table.{Table}
 use Rattle.rules.specs.Tight.{Rule, Tight}
 use Rattle.rules.specs.Proper.{Proper}
 use Rattle.rules.specs.Tightening.{Widest, Conflict}
-use Rattle.rules.proofs.Lists.{All}
+use Rattle.lists.specs.Every.{All}
 use Rattle.rules.proofs.Widest.{every-table}
 use Rattle.search.specs.Search.{Outcome, none, gave-up}
 use Rattle.search.proofs.Limit.{Answer, answer-found, answer-none}

@@ -6,7 +6,7 @@ use native.Mathlib.Decide.{decLt}
 use native.Mathlib.Omega.{arith}
 use lib.ListN.{length}
 use Rattle.words.specs.Word.{Bounded}
-use Rattle.words.specs.Table.{at}
+use Rattle.lists.specs.Lists.{at}
 use Rattle.words.proofs.Order.{⊑-refl}
 use Rattle.rules.specs.Kinds.{Place, kindOf}
 use Rattle.rules.specs.Rows.{Fitting}
@@ -15,7 +15,8 @@ use Rattle.rules.specs.ProperProblem.{KindNumber, Fields, ProperRule}
 use Rattle.checker.specs.Lent.{stride, wordCount, widthAt, loAt, hiAt, ruleCount, ruleAt, widthsOf, tableOf}
 use Rattle.checker.specs.Demands.{Demand, SIZE, WIDTH, TABLE, KIND, FIELD, FIT, LIMIT, Met}
 use Rattle.checker.specs.Promise.{Fine}
-use Rattle.checker.proofs.Series.{length-series, width-at, lo-at, hi-at, past-last, rule-at}
+use Rattle.lists.proofs.Series.{length-series}
+use Rattle.checker.proofs.Series.{width-at, lo-at, hi-at, past-last, rule-at}
 
 module _ (ws : List ℕ) (whole : length ws % stride ≡ 0) where
   widths-placed : (ρ : Rule) → _≡_ {A = Place → ℕ} (λ p. at (widthsOf ws) (word ρ p)) (λ p. widthAt ws (word ρ p))

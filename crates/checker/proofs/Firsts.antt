@@ -12,14 +12,15 @@ use Rattle.checker.specs.declared.Checked.the-variants.{Ok, Refused}
 use Rattle.checker.specs.Demands.{Demand}
 use Rattle.checker.specs.Refusal.{asks, _then_, firstOf}
 
-pub refused-ok : {n p : ℕ} → Refused n p ≡ Ok → ⊥
-refused-ok e = let z : _≡_ {A = ℕ} 0 1 = cc in omega arith
+-- no answer is a refusal and OK
+pub refused-not-ok : {n p : ℕ} {x : Checked} → x ≡ Refused n p → x ≡ Ok → ⊥
+refused-not-ok a b = let z : _≡_ {A = ℕ} 0 1 = cc in omega arith
 
 -- ---- a test
 
 pub asks-ok : (d : Demand) (b : Bool) → asks d b ≡ Ok → T b
 asks-ok d true e = tt
-asks-ok d false e = absurd (refused-ok e)
+asks-ok d false e = absurd (refused-not-ok refl e)
 
 pub asks-true : (d : Demand) (b : Bool) → T b → asks d b ≡ Ok
 asks-true d true t = refl
@@ -29,7 +30,7 @@ asks-true d false t = absurd t
 
 pub then-ok : (x y : Checked) → x then y ≡ Ok → (x ≡ Ok) × (y ≡ Ok)
 then-ok Ok y e = (refl, e)
-then-ok (Refused n p) y e = absurd (refused-ok e)
+then-ok (Refused n p) y e = absurd (refused-not-ok refl e)
 
 pub ok-then : (x y : Checked) → x ≡ Ok → y ≡ Ok → x then y ≡ Ok
 ok-then Ok y e f = f
@@ -77,7 +78,7 @@ run-stop (suc n) i f {x} {y} l e r =
 pub run-refused : (n : ℕ) (f : ℕ → Checked) {x y : ℕ} → firstOf n f ≡ Refused x y
     → (i : ℕ) × (i < n) × (f i ≡ Refused x y) × ((j : ℕ) → j < i → f j ≡ Ok)
 unfolding firstOf
-run-refused zero f e = absurd (refused-ok (sym e))
+run-refused zero f e = absurd (refused-not-ok refl (sym e))
 run-refused (suc n) f {x} {y} e = go (firstOf n f) refl e (λ q. run-refused n f q)
   where
     go : (z : Checked) → firstOf n f ≡ z → z then f n ≡ Refused x y

@@ -1,5 +1,4 @@
 pub mod Firsts
-pub mod Entries
 pub mod RowNumbers
 pub mod TestsMet
 pub mod Answers
@@ -9,5 +8,4 @@ pub mod Orders
 pub mod Earlier
 pub mod Right
 pub mod Faults
-pub mod Deciding
 pub mod Rooms

@@ -14,7 +14,7 @@ use Rattle.checker.specs.Demands.{Demand, SIZE, WIDTH, TABLE, KIND, FIEL
 use Rattle.checker.specs.Tests.{sized, isWidth, isKind, areFields, isFitting}
 use Rattle.checker.specs.Refusal.{asks, _then_, firstOf, wordRefusal, ruleRefusal, refusal, refusalWith}
 use Rattle.checker.specs.Promise.{Fine, FirstUnmet, Right, ok, refused}
-use Rattle.checker.proofs.Firsts.{refused-ok, run-ok, run-refused}
+use Rattle.checker.proofs.Firsts.{refused-not-ok, run-ok, run-refused}
 use Rattle.checker.proofs.TestsMet.{sized-met, met-sized, width-met, met-width, kind-met, met-kind, fields-met, met-fields, met-fitting}
 use Rattle.checker.proofs.Orders.{size-first, same-key}
 use Rattle.checker.proofs.FineMet.{met-fine, fine-met}
@@ -50,7 +50,7 @@ module _ (limit : ℕ) (ws bs : List ℕ) where
               unmet = λ m. fails _ eb (bounded-complete _ _ _) (m l);
               earlier = before-word limit ws bs size (TABLE i) i refl refl (omega arith) h (λ k. width-met (widthAt ws i) (passed _ ea));
             })
-        go true true ea eb e = absurd (refused-ok (sym e))
+        go true true ea eb e = absurd (refused-not-ok refl (sym e))
 
     module _ (words : (i : ℕ) → i < wordCount ws → wordRefusal ws i ≡ Ok) where
       rule-right : {x y : ℕ} (n : ℕ) → n < ruleCount bs → ((j : ℕ) → j < n → ruleRefusal ws bs j ≡ Ok) → ruleRefusal ws bs n ≡ Refused x y
@@ -78,7 +78,7 @@ module _ (limit : ℕ) (ws bs : List ℕ) where
                 earlier = before-rule limit ws bs size words (FIT n) n refl refl (omega arith) h
                     (λ k. kind-met (ruleAt bs n .kind) (passed _ ea)) (λ k. fields-met (wordCount ws) (ruleAt bs n) (passed _ eb));
               })
-          go true true true ea eb ec e = absurd (refused-ok (sym e))
+          go true true true ea eb ec e = absurd (refused-not-ok refl (sym e))
 
       module _ (rules : (n : ℕ) → n < ruleCount bs → ruleRefusal ws bs n ≡ Ok) where
         limit-right : (b : Bool) → leb limit most-guesses ≡ b → Right limit ws bs (asks LIMIT b)

@@ -1,25 +1,14 @@
 -- Lent numbers as lists of widths, bounds and rules: what stands at each index.
-use mathlib.Core.Path.{_≡_, refl, sym, _∙_}
+use mathlib.Core.Path.{_≡_, sym, _∙_}
 use mathlib.Core.List.{List}
-use Prim.Native.Nat.{ℕ, zero, suc, _+_, _*_, _%_, _≤_, _<_}
+use Prim.Native.Nat.{ℕ, _+_, _*_, _%_, _≤_, _<_}
 use native.Mathlib.Decide.{decLt}
 use native.Mathlib.Omega.{arith}
-use lib.ListN.{length, getD, List·getD-eq-default}
-use Rattle.words.specs.Table.{at}
+use lib.ListN.{length, List·getD-eq-default}
+use Rattle.lists.proofs.Series.{length-series, series-at}
+use Rattle.lists.specs.Lists.{at, series}
 use Rattle.rules.specs.Tight.{rule, none-rule}
-use Rattle.checker.specs.Lent.{stride, wordCount, widthAt, loAt, hiAt, ruleCount, ruleAt, series, widthsOf, tableOf, rulesOf}
-
-module _ {A : Type 0} where
-  pub length-series : (n : ℕ) (f : ℕ → A) → length (series n f) ≡ n
-  unfolding series
-  length-series zero f = refl
-  length-series (suc n) f = rw (length-series n (λ i. f (suc i)))
-
-  pub series-at : (d : A) (n i : ℕ) (f : ℕ → A) → i < n → getD (series n f) i d ≡ f i
-  unfolding series
-  series-at d zero i f l = absurd (omega arith)
-  series-at d (suc n) zero f l = refl
-  series-at d (suc n) (suc i) f l = series-at d n i (λ j. f (suc j)) (omega arith)
+use Rattle.checker.specs.Lent.{stride, wordCount, widthAt, loAt, hiAt, ruleCount, ruleAt, widthsOf, tableOf, rulesOf}
 
 -- one number of each word; past the last word stands 0
 words-at : (ws : List ℕ) (g : ℕ → ℕ) → length ws % stride ≡ 0 → ((i : ℕ) → stride * i ≤ g i) → (i : ℕ)

@@ -10,7 +10,8 @@ use Rattle.rules.specs.Kinds.{Place, R, A, B, S, kindOf}
 use Rattle.rules.specs.Rows.{Class, equal-r-a, equal-r-a-b, chosen, part, joined, shifted, equal-a-b, class, uses, FitsAs, Fitting}
 use Rattle.rules.specs.Tight.{Rule, word}
 use Rattle.rules.specs.ProperProblem.{usesK, kinds, KindNumber, Fields, most-words}
-use Rattle.rules.proofs.FitTest.{both, pair}
+use Rattle.lists.proofs.Bools.{both}
+use Rattle.rules.proofs.FitTest.{pair}
 use Rattle.checker.specs.Lent.{stride, fields, wordCount, widthAt}
 use Rattle.checker.specs.Demands.{Sized}
 use Rattle.checker.specs.Tests.{sized, oneTo, isWidth, isKind, isField, areFields, fitsAs, isFitting}

@@ -1,8 +1,9 @@
 -- Lent numbers as a problem: three numbers a word, six bytes a rule, one after the other.
 use mathlib.Core.List.{List, [], _∷_}
-use Prim.Native.Nat.{ℕ, zero, suc, _+_, _*_, _/_}
+use Prim.Native.Nat.{ℕ, _+_, _*_, _/_}
 use lib.ListN.{length}
-use Rattle.words.specs.Table.{Table, at}
+use Rattle.words.specs.Table.{Table}
+use Rattle.lists.specs.Lists.{at, series}
 use Rattle.rules.specs.Tight.{Rule}
 
 -- numbers a word: width, lo, hi
@@ -37,11 +38,6 @@ ruleAt bs n = record {
   s = at bs (fields * n + 4);
   k = at bs (fields * n + 5);
 }
-
--- the list f 0, f 1, .. f (n - 1)
-unfoldable pub series : {A : Type 0} → ℕ → (ℕ → A) → List A
-series zero f = []
-series (suc n) f = f 0 ∷ series n (λ i. f (suc i))
 
 -- the widths, the table and the rules that the numbers stand for
 abbrev pub widthsOf : List ℕ → List ℕ

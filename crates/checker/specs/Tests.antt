@@ -10,11 +10,6 @@ use Rattle.rules.specs.Tight.{Rule, word}
 use Rattle.rules.specs.ProperProblem.{kinds, usesK, most-words, most-rules}
 use Rattle.checker.specs.Lent.{stride, fields, wordCount, widthAt, ruleCount}
 
--- what a test tells: a statement holds, or it does not
-pub data Decides (P : Type 0) : Bool → Type 0 where
-  holds : P → Decides P true
-  fails : ¬ P → Decides P false
-
 unfoldable pub sized : List ℕ → List ℕ → Bool
 sized ws bs = eqb (length ws % stride) 0 && (eqb (length bs % fields) 0 && (leb (wordCount ws) most-words && leb (ruleCount bs) most-rules))
 

@@ -1,7 +1,7 @@
 // The fixed table of fourteen rows, and what it says of a kind.
 use rules::Widths;
 ghost use mathlib.Core.Path.{_≡_};
-ghost use Prim.Native.Nat.{_+_, _<_};
+ghost use Prim.Native.Nat.{_+_, _<_, _-_};
 ghost use lib.Dec.{leb, eqb};
 ghost use Rattle.rules.specs.Kinds.{widthOf, kindOf};
 ghost use Rattle.rules.specs.ProperProblem.{KindNumber};

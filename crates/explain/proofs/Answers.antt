@@ -11,7 +11,7 @@ use Rattle.words.proofs.Order.{bit-lt}
 use Rattle.rules.specs.Kinds.{Place}
 use Rattle.rules.specs.Meaning.{Shape}
 use Rattle.rules.specs.Fits.{Span, Uses, Legal}
-use Rattle.checker.specs.Tests.{Decides, holds, fails}
+use Rattle.lists.specs.Tests.{Decides, holds, fails}
 use Rattle.hull.specs.declared.Bounds.{Bounds}
 use Rattle.hull.specs.declared.Narrowed.{Narrowed}
 use Rattle.hull.specs.Narrowing.{loOf, hiOf, spanOf, Narrows}

@@ -4,11 +4,10 @@ use mathlib.Core.List.{List}
 use Prim.Native.Nat.{ℕ}
 use native.Mathlib.Omega.{arith}
 use lib.ListN.{length}
+use Rattle.checker.proofs.Firsts.{refused-not-ok}
 use Rattle.rules.specs.Kinds.{Place}
 use Rattle.rules.specs.Meaning.{Shape}
 use Rattle.rules.specs.Fits.{Span}
-use Rattle.checker.specs.declared.Checked.{Checked}
-use Rattle.checker.specs.declared.Checked.the-variants.{Ok, Refused}
 use Rattle.reasons.proofs.One.{one-explanation}
 use Rattle.explain.specs.declared.Explained.{Explained}
 use Rattle.explain.specs.Dropping.{written}
@@ -29,12 +28,9 @@ module _ {ws bs : List ℕ} {n p j : ℕ} {l : List ℕ} where
   judged-once (answered a g) (not-asked b) = absurd (b a)
   judged-once (answered a g) (answered b h) = given-once g h
 
-other : {n p : ℕ} {x : Checked} → x ≡ Refused n p → x ≡ Ok → ⊥
-other a b = let z : _≡_ {A = ℕ} 0 1 = cc in omega arith
-
 module _ {ws bs : List ℕ} {n p j : ℕ} {l : List ℕ} where
   pub explain-once : {x y : Explained} {m k : List ℕ} → Explaining ws bs n p j l x m → Explaining ws bs n p j l y k → (x ≡ y) × (m ≡ k)
   explain-once (refused a) (refused b) = (cc, refl)
-  explain-once (refused a) (judged b d) = absurd (other a b)
-  explain-once (judged a d) (refused b) = absurd (other b a)
+  explain-once (refused a) (judged b d) = absurd (refused-not-ok a b)
+  explain-once (judged a d) (refused b) = absurd (refused-not-ok b a)
   explain-once (judged a d) (judged b e) = judged-once d e

@@ -1,7 +1,7 @@
 -- Bounds held by value in which a bit is treated as open at one place: as bounds of the rule's places they are what `opened` says.
 use mathlib.Core.Path.{_≡_, refl, ap, _∙_, fun-ext}
 use mathlib.Core.Logic.{_≢_}
-use Prim.Native.Nat.{ℕ, _+_, _-_, _^_}
+use Prim.Native.Nat.{ℕ, _+_, _^_, _-_}
 use native.Mathlib.Omega.{arith}
 use Rattle.words.specs.Bits.{bit}
 use Rattle.words.proofs.Order.{bit-lt}

@@ -14,7 +14,7 @@ use Rattle.rules.specs.Meaning.{Shape}
 use Rattle.rules.specs.Fits.{Span, Uses}
 use Rattle.checker.specs.Rows.{usesField}
 use Rattle.explain.specs.Places.{last, placeOf}
-use Rattle.checker.specs.Tests.{Decides, holds, fails}
+use Rattle.lists.specs.Tests.{Decides, holds, fails}
 use Rattle.explain.specs.Asking.{OpenBit}
 use Rattle.explain.proofs.PlaceNumbers.{place-field}
 

@@ -5,7 +5,7 @@ use Prim.Native.Nat.{ℕ, _+_, _*_, _<_}
 use native.Mathlib.Nat.{add-zero}
 use native.Mathlib.Omega.{arith}
 use lib.ListN.{getD}
-use Rattle.words.specs.Table.{at}
+use Rattle.lists.specs.Lists.{at}
 use Rattle.rules.specs.Fits.{Legal}
 use Rattle.rules.specs.Tight.{rule, shape, span}
 use Rattle.rules.specs.ProperProblem.{KindNumber, ProperRule}
@@ -13,7 +13,8 @@ use Rattle.rules.proofs.ProperRules.{rule-legal}
 use Rattle.checker.specs.declared.Checked.the-variants.{Refused}
 use Rattle.rules.specs.declared.Widths.{Widths}
 use Rattle.checker.specs.Lent.{fields, widthAt, widthsOf, tableOf, ruleCount, ruleAt, rulesOf}
-use Rattle.checker.proofs.Series.{length-series, width-at, lo-at, hi-at, rule-at}
+use Rattle.lists.proofs.Series.{length-series}
+use Rattle.checker.proofs.Series.{width-at, lo-at, hi-at, rule-at}
 use Rattle.hull.specs.declared.Bounds.{Bounds}
 use Rattle.hull.specs.Narrowing.{shapeOf, spanOf}
 use Rattle.hull.specs.InTable.{widthsAt, boundsAt}

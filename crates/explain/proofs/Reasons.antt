@@ -13,7 +13,7 @@ use Rattle.rules.specs.Tight.{rule, shape, span}
 use Rattle.rules.proofs.ProperRules.{rule-legal}
 use Rattle.checker.specs.declared.Checked.the-variants.{Refused}
 use Rattle.checker.specs.Lent.{widthsOf, tableOf, rulesOf}
-use Rattle.checker.proofs.Series.{length-series}
+use Rattle.lists.proofs.Series.{length-series}
 use Rattle.reasons.specs.Says.{Answer, CONFLICT, FORCED, FREE, Says}
 use Rattle.reasons.specs.Reason.{entry, opened, fixedOf, Explains, no-reason, with-reason}
 use Rattle.reasons.specs.Alone.{listed, alone}
@@ -23,8 +23,7 @@ use Rattle.explain.specs.declared.Explained.{Explained}
 use Rattle.explain.specs.declared.Explained.the-variants as explained
 use Rattle.explain.specs.Places.{placeOf}
 use Rattle.explain.specs.Dropping.{written}
-use Rattle.explain.specs.Promise.{entries, given, Explanation, Taken, Tells, tells-conflict}
-use Rattle.explain.specs.Promise.{tells-forced, Judged, not-asked, answered, Explaining, refused, judged}
+use Rattle.explain.specs.Promise.{entries, given, Explanation, Taken, Tells, tells-conflict, tells-forced, Judged, not-asked, answered, Explaining, refused, judged}
 use Rattle.explain.proofs.Calling.{here-taken}
 
 -- what tells a reason of c entries is given for no other answer, and with no other count

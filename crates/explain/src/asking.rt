@@ -4,12 +4,12 @@ use crate::places;
 ghost use mathlib.Core.Path.{_≡_};
 ghost use Prim.Native.Nat.{_+_, _*_, _<_};
 ghost use lib.ListN.{length};
-ghost use Rattle.words.specs.Table.{at};
+ghost use Rattle.lists.specs.Lists.{at};
 ghost use Rattle.rules.specs.Fits.{Legal};
 ghost use Rattle.rules.specs.ProperProblem.{KindNumber};
 ghost use Rattle.checker.specs.Lent.{stride, fields};
 ghost use Rattle.hull.specs.Narrowing.{spanOf};
-ghost use Rattle.checker.specs.Tests.{Decides};
+ghost use Rattle.lists.specs.Tests.{Decides};
 ghost use Rattle.explain.specs.Asking.{shapeIn, OpenBit};
 ghost use Rattle.explain.specs.Reading.{boundsIn, questionIn};
 

@@ -6,7 +6,7 @@ ghost use mathlib.Core.Path.{_≡_};
 ghost use Prim.Native.Nat.{_<_};
 ghost use Rattle.hull.specs.Narrowing.{spanOf};
 ghost use Rattle.reasons.specs.Says.{Says};
-ghost use Rattle.checker.specs.Tests.{Decides};
+ghost use Rattle.lists.specs.Tests.{Decides};
 ghost use Rattle.explain.specs.Asking.{shapeIn, placeIn, answer, saidBy, Asks};
 
 // What a narrowing says of the bit: CONFLICT without a fit, FORCED where the hull of the fits has one value for the bit, else FREE.

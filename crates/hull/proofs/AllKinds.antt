@@ -1,6 +1,6 @@
 -- What is computed for each kind is the hull: the theorem of the fourteen kinds. And what each function asks of a rule follows from a legal one.
 use mathlib.Core.Path.{_≡_, refl}
-use Prim.Native.Nat.{ℕ, zero, suc, _+_, _-_, _<_}
+use Prim.Native.Nat.{ℕ, zero, suc, _+_, _<_, _-_}
 use native.Mathlib.Omega.{arith}
 use lib.Dec.{T}
 use Rattle.words.specs.Word.{Width}

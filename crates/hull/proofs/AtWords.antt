@@ -2,7 +2,8 @@
 use mathlib.Core.Path.{_≡_, refl, fun-ext}
 use mathlib.Core.List.{List}
 use Prim.Native.Nat.{ℕ}
-use Rattle.words.specs.Table.{Table, at}
+use Rattle.words.specs.Table.{Table}
+use Rattle.lists.specs.Lists.{at}
 use Rattle.rules.specs.Kinds.{Place, R, A, B, S, kindOf, widthOf}
 use Rattle.rules.specs.Tight.{Rule, word, shape, span}
 use Rattle.hull.specs.Narrowing.{shapeOf, spanOf, loOf, hiOf}

@@ -8,7 +8,7 @@ use Rattle.words.specs.Bits.{bit}
 use Rattle.hull.specs.declared.Lanes.{Lanes}
 use Rattle.hull.specs.Columns.{nz, push, halvesOf, widened}
 use Rattle.hull.specs.Runs.{Lane, lane-r, lane-a, lane-b, lo, hi, has}
-use Rattle.hull.proofs.Bools.{at4, beq-eq}
+use Rattle.lists.proofs.Bools.{at4, beq-eq}
 use Rattle.hull.proofs.Masks.{col}
 
 -- the columns with the bit b at lane p

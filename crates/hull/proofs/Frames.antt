@@ -5,7 +5,7 @@ use mathlib.Core.Bool.{Bool}
 use Prim.Native.Nat.{ℕ}
 use native.Mathlib.Omega.{arith}
 use lib.Dec.{T}
-use Rattle.words.specs.Bits.{_⊑_, one}
+use Rattle.words.specs.Bits.{one, _⊑_}
 use Rattle.words.specs.Word.{Bounded}
 use Rattle.words.proofs.Order.{⊑-le, ⊑-antisym}
 use Rattle.rules.specs.Kinds.{Place, R, A, B, S}
@@ -21,7 +21,7 @@ use Rattle.hull.specs.Runs.{Lane, lane-r, lane-a, lane-b, lo, hi, pick, 
 use Rattle.hull.specs.ByColumns.{lanesOf, framedBy}
 use Rattle.hull.specs.Narrowing.{spanOf, loOf, hiOf}
 use Rattle.hull.proofs.Size.{Below, small-of}
-use Rattle.hull.proofs.Bools.{beq-eq}
+use Rattle.lists.proofs.Bools.{beq-eq}
 use Rattle.hull.proofs.LowBit.{as-bit, one-inj, may-be→, may-be←}
 use Rattle.hull.proofs.Meaning.{Under}
 use Rattle.hull.proofs.OnlyUsed.{kept, picked, unpicked, keep-in, pick-in, keep-bounded, pick-bounded}

@@ -4,7 +4,7 @@ use mathlib.Core.Path.{_≡_, refl, sym, ap, _∙_}
 use Prim.Native.Nat.{ℕ}
 use lib.Dec.{T}
 use lib.Bits.{bitAnd, bitOr}
-use Rattle.words.specs.Bits.{_⊑_, under}
+use Rattle.words.specs.Bits.{under, _⊑_}
 use Rattle.words.proofs.Order.{⊑-refl, ⊑-trans}
 use Rattle.words.proofs.Ops.{under-sound, under-complete}
 use Rattle.words.proofs.Meets.{⊑-or-l, ⊑-or-r, or-⊑, and-⊑-l, and-⊑-r, ⊑-and}

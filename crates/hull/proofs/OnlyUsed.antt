@@ -4,7 +4,7 @@ use mathlib.Core.Bool.{Bool, true, false}
 use Prim.Native.Nat.{ℕ}
 use lib.Dec.{T}
 use lib.Pow.{pow-pos}
-use Rattle.words.specs.Bits.{_⊑_, one}
+use Rattle.words.specs.Bits.{one, _⊑_}
 use Rattle.words.specs.Word.{Bounded}
 use Rattle.words.proofs.Order.{⊑-refl}
 use Rattle.rules.specs.Kinds.{Place}

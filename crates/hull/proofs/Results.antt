@@ -13,7 +13,7 @@ use Rattle.words.specs.Bits.{one}
 use Rattle.hull.specs.Columns.{odd}
 use Rattle.hull.specs.Runs.{Lane, lane-r, lane-a, lane-b, ends, pick, Runs}
 use Rattle.hull.specs.Automata.{autoOf, accepts}
-use Rattle.hull.proofs.Bools.{at, at3}
+use Rattle.lists.proofs.Bools.{at1, at3}
 use Rattle.hull.proofs.LowBit.{split, low-one, one-lt}
 use Rattle.hull.proofs.Table.{machine, xor, carry}
 use Rattle.hull.proofs.Meaning.{Under, computes}
@@ -56,31 +56,31 @@ pick-step false a b = split b
 pub ands : (n : ℕ) (q : Bool) (v : Lane → ℕ) → Under n v → Runs (autoOf 3) n q v ↔ (v lane-r ≡ bitAnd (v lane-a) (v lane-b))
 unfolding autoOf accepts machine
 ands =
-    computes 3 (lit< tt) (λ n q a b. bitAnd a b) (λ q y z. y && z) (λ q x y z. refl) (at (λ q. ends (autoOf 3) q) tt) (λ q. refl)
+    computes 3 (lit< tt) (λ n q a b. bitAnd a b) (λ q y z. y && z) (λ q x y z. refl) (at1 (λ q. ends (autoOf 3) q) tt) (λ q. refl)
     (λ n q a b. omega (arith, and-step a b, low-one a, low-one b, one-and (odd a) (odd b)))
 
 pub ors : (n : ℕ) (q : Bool) (v : Lane → ℕ) → Under n v → Runs (autoOf 4) n q v ↔ (v lane-r ≡ bitOr (v lane-a) (v lane-b))
 unfolding autoOf accepts machine
 ors =
-    computes 4 (lit< tt) (λ n q a b. bitOr a b) (λ q y z. y || z) (λ q x y z. refl) (at (λ q. ends (autoOf 4) q) tt) (λ q. refl)
+    computes 4 (lit< tt) (λ n q a b. bitOr a b) (λ q y z. y || z) (λ q x y z. refl) (at1 (λ q. ends (autoOf 4) q) tt) (λ q. refl)
     (λ n q a b. omega (arith, or-step a b, low-one a, low-one b, one-or (odd a) (odd b)))
 
 pub xors : (n : ℕ) (q : Bool) (v : Lane → ℕ) → Under n v → Runs (autoOf 5) n q v ↔ (v lane-r ≡ bitXor (v lane-a) (v lane-b))
 unfolding autoOf accepts machine
 xors =
-    computes 5 (lit< tt) (λ n q a b. bitXor a b) (λ q y z. xor y z) (λ q x y z. refl) (at (λ q. ends (autoOf 5) q) tt) (λ q. refl)
+    computes 5 (lit< tt) (λ n q a b. bitXor a b) (λ q y z. xor y z) (λ q x y z. refl) (at1 (λ q. ends (autoOf 5) q) tt) (λ q. refl)
     (λ n q a b. xor-step a b ∙ ap (λ (d : ℕ). bitXor (a / 2) (b / 2) * 2 + d) (ap₂ differ (low-one a) (low-one b) ∙ one-xor (odd a) (odd b)))
 
 pub sums : (n : ℕ) (q : Bool) (v : Lane → ℕ) → Under n v → Runs (autoOf 6) n q v ↔ (v lane-r ≡ (v lane-a + v lane-b + one q) % 2 ^ n)
 unfolding autoOf accepts machine
 sums =
-    computes 6 (lit< tt) (λ n q a b. (a + b + one q) % 2 ^ n) (λ q y z. xor q (xor y z)) (λ q x y z. refl) (at (λ q. ends (autoOf 6) q) tt)
+    computes 6 (lit< tt) (λ n q a b. (a + b + one q) % 2 ^ n) (λ q y z. xor q (xor y z)) (λ q x y z. refl) (at1 (λ q. ends (autoOf 6) q) tt)
     (λ q. mod-one (0 + 0 + one q)) sum-step
 
 pub choices : (n : ℕ) (q : Bool) (v : Lane → ℕ) → Under n v → Runs (autoOf 7) n q v ↔ (v lane-r ≡ pick q (v lane-b) (v lane-a))
 unfolding autoOf accepts machine
 choices =
-    computes 7 (lit< tt) (λ n q a b. pick q b a) (λ q y z. pick q z y) (λ q x y z. refl) (at (λ q. ends (autoOf 7) q) tt)
+    computes 7 (lit< tt) (λ n q a b. pick q b a) (λ q y z. pick q z y) (λ q x y z. refl) (at1 (λ q. ends (autoOf 7) q) tt)
     (λ q. same q) (λ n q a b. pick-step q a b)
   where
     same : (q : Bool) → pick {A = ℕ} q 0 0 ≡ 0

@@ -5,7 +5,7 @@ use mathlib.Core.Bool.{_&&_}
 use Prim.Native.Nat.{ℕ}
 use lib.Dec.{T, eqb, eqb→eq}
 use lib.Bits.{bitAnd, bitOr}
-use Rattle.words.specs.Bits.{_⊑_, under}
+use Rattle.words.specs.Bits.{under, _⊑_}
 use Rattle.words.proofs.Order.{⊑-refl, ⊑-trans, ⊑-antisym}
 use Rattle.words.proofs.Ops.{under-sound, under-complete}
 use Rattle.words.proofs.Meets.{⊑-or-l, ⊑-or-r, or-⊑, and-⊑-l, and-⊑-r, ⊑-and}
@@ -17,7 +17,7 @@ use Rattle.hull.specs.declared.Bounds.{Bounds}
 use Rattle.hull.specs.Moves.{withRA}
 use Rattle.hull.specs.ByColumns.{fixedIn, settled}
 use Rattle.hull.specs.Narrowing.{shaped, spanOf, loOf, hiOf, Narrows}
-use Rattle.hull.proofs.Bools.{and-left, and-right}
+use Rattle.lists.proofs.Bools.{and-left, and-right}
 use Rattle.hull.proofs.Decided.{ends-owed, narrows}
 
 -- operands that the test finds fixed

@@ -1,6 +1,6 @@
 -- COPY, SLICE and SHR: r is m bits of a from bit k on, and the other bits of a are not looked at.
 use mathlib.Core.Path.{_≡_, refl, sym, _∙_}
-use Prim.Native.Nat.{ℕ, _+_, _/_, _-_, _%_, _^_, _<_, _≤_}
+use Prim.Native.Nat.{ℕ, _+_, _/_, _%_, _^_, _<_, _≤_, _-_}
 use native.Mathlib.Nat.{mod-eq-of-lt, div-one, zero-mul}
 use native.Mathlib.Omega.{arith}
 use native.Mathlib.Decide.{decLt}

@@ -4,7 +4,7 @@ use mathlib.Core.Bool.{Bool, true, false, not, _&&_, _||_}
 use Prim.Native.Nat.{ℕ}
 use native.Mathlib.Omega.{arith}
 use lib.Dec.{T}
-use Rattle.words.specs.Bits.{bit, _⊑_, one}
+use Rattle.words.specs.Bits.{bit, one, _⊑_}
 use Rattle.words.proofs.Order.{⊑-refl, bit-of-zero}
 use Rattle.rules.specs.Kinds.{Place, S}
 use Rattle.rules.specs.Meaning.{Shape}
@@ -13,7 +13,7 @@ use Rattle.hull.specs.declared.Lanes.{Lanes}
 use Rattle.hull.specs.declared.Auto.{Auto}
 use Rattle.hull.specs.Columns.{sweepOf}
 use Rattle.hull.specs.Runs.{Lane, pick, live}
-use Rattle.hull.proofs.Bools.{and-both, and-left, and-right, or-left, or-right}
+use Rattle.lists.proofs.Bools.{and-both, and-left, and-right, or-left, or-right}
 use Rattle.hull.proofs.Tied.{values, Tied, live-fit, fit-live}
 
 zero-⊑ : (x : ℕ) → 0 ⊑ x

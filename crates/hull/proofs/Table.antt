@@ -11,7 +11,7 @@ use Rattle.words.specs.Bits.{bit}
 use Rattle.hull.specs.Runs.{Lane, lane-r, lane-a, lane-b, mask, has, pick}
 use Rattle.hull.specs.Automata.{autoOf, steps00, steps01, steps10, steps11, accepts}
 use Rattle.hull.proofs.Masks.{col}
-use Rattle.hull.proofs.Bools.{both, all3, at5, and-left, and-right, beq-eq}
+use Rattle.lists.proofs.Bools.{all1, all3, at5, and-left, and-right, beq-eq}
 
 -- A kind as a machine that reads the bits y of a and z of b in state q: the state after them, and whether x may stand at r.
 pub record Machine : Type 0 where
@@ -62,7 +62,7 @@ abbrev right : ℕ → Bool → Bool → Bool → Bool → Bool → Bool
 right κ q q' x y z = Bool·beq (has (mask (autoOf κ) q q') (col x y z)) (Bool·beq q' (machine κ .next q y z) && machine κ .passes q x y z)
 
 abbrev tested : ℕ → Bool
-tested κ = both (λ q. both (λ q'. all3 (right κ q q')))
+tested κ = all1 (λ q. all1 (λ q'. all3 (right κ q q')))
 
 abbrev pub all : ℕ → (ℕ → Bool) → Bool
 all zero f = true

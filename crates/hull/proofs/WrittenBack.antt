@@ -3,7 +3,8 @@
 use Prim.Native.Nat.{ℕ}
 use lib.Bits.{bitAnd, bitOr}
 use Rattle.words.specs.Bits.{_⊑_}
-use Rattle.words.specs.Table.{Table, Inside, at}
+use Rattle.words.specs.Table.{Table, Inside}
+use Rattle.lists.specs.Lists.{at}
 use Rattle.words.proofs.Order.{⊑-trans}
 use Rattle.words.proofs.Meets.{⊑-or-l, or-⊑, and-⊑-l, ⊑-and}
 use Rattle.words.proofs.Tables.{self, inside-trans}

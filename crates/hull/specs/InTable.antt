@@ -1,7 +1,8 @@
 -- A rule over the words of a table: the widths and the bounds that its narrowing is given.
 use mathlib.Core.List.{List}
 use Prim.Native.Nat.{ℕ}
-use Rattle.words.specs.Table.{Table, at}
+use Rattle.words.specs.Table.{Table}
+use Rattle.lists.specs.Lists.{at}
 use Rattle.rules.specs.Tight.{Rule}
 use Rattle.rules.specs.declared.Widths.{Widths}
 use Rattle.hull.specs.declared.Bounds.{Bounds}

@@ -5,7 +5,7 @@ use Prim.Native.Nat.{ℕ, suc, _+_, _*_, _<_, _≤_}
 use native.Mathlib.Nat.{mul-suc, mul-le-mul-left}
 use native.Mathlib.Decide.{decLt}
 use native.Mathlib.Omega.{arith}
-use Rattle.words.specs.Table.{at}
+use Rattle.lists.specs.Lists.{at}
 use Rattle.blocks.specs.Block.{Clear}
 use Rattle.reader.specs.Tests.{Gaps}
 

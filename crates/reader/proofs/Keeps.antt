@@ -6,7 +6,7 @@ use Rattle.checker.specs.declared.Checked.{Checked}
 use Rattle.checker.specs.Refusal.{refusalWith}
 use Rattle.blocks.specs.declared.Problem.{Problem}
 use Rattle.blocks.specs.declared.Reading.{Reading}
-use Rattle.blocks.specs.Bytes.{put}
+use Rattle.lists.specs.Lists.{put}
 use Rattle.blocks.specs.Edition.{edition1}
 use Rattle.blocks.specs.File.{ProperFile, Whole}
 use Rattle.blocks.specs.Decode.{wordsIn, rulesIn}

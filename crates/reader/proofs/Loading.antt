@@ -1,12 +1,13 @@
 -- A number loaded from its bytes, the highest first: one byte more a turn.
 use mathlib.Core.Path.{_≡_}
 use mathlib.Core.List.{List}
-use Prim.Native.Nat.{ℕ, suc, _+_, _-_, _*_, _^_, _<_, _≤_}
+use Prim.Native.Nat.{ℕ, suc, _+_, _*_, _^_, _<_, _≤_, _-_}
 use native.Mathlib.Omega.{arith}
 use lib.ListN.{length}
-use Rattle.words.specs.Table.{at}
-use Rattle.blocks.specs.Bytes.{number, part, Under}
-use Rattle.blocks.proofs.Parts.{part-cons, short-part, under-part}
+use Rattle.lists.specs.Lists.{at, part, Under}
+use Rattle.blocks.specs.Bytes.{number}
+use Rattle.lists.proofs.Parts.{part-cons, short-part}
+use Rattle.lists.proofs.Unders.{under-part}
 use Rattle.blocks.proofs.Numbers.{number-under}
 
 pub load-start : (b : List ℕ) (a k : ℕ) → 0 ≡ number (part b (a + k) (k - k))

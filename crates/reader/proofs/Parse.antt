@@ -3,8 +3,8 @@ use mathlib.Core.Path.{_≡_, sym, _∙_, subst}
 use mathlib.Core.List.{List}
 use Prim.Native.Nat.{ℕ}
 use native.Mathlib.Omega.{arith}
-use Rattle.words.specs.Table.{at}
-use Rattle.blocks.specs.Bytes.{number, part}
+use Rattle.lists.specs.Lists.{at, part}
+use Rattle.blocks.specs.Bytes.{number}
 use Rattle.blocks.specs.Edition.{edition1}
 use Rattle.blocks.specs.Block.{sixteen, Sound, Clear, Records, Header}
 use Rattle.reader.specs.declared.Body.{Body}

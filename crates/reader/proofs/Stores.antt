@@ -6,22 +6,22 @@ use native.Mathlib.Nat.{zero-add}
 use native.Mathlib.Omega.{arith}
 use lib.ListN.{length, take, drop, set}
 use lib.Seq.{take-at}
-use Rattle.words.specs.Table.{at}
-use Rattle.blocks.specs.Bytes.{number, part, put}
+use Rattle.lists.specs.Lists.{at, part, put}
+use Rattle.blocks.specs.Bytes.{number}
 use Rattle.blocks.specs.Edition.{edition1}
 use Rattle.blocks.specs.Written.{wordBlocks}
 use Rattle.blocks.specs.Decode.{slot, wordsIn, rulesIn}
-use Rattle.blocks.proofs.Items.{at-series}
-use Rattle.blocks.proofs.Put.{put-turn, put-end}
+use Rattle.lists.proofs.Series.{series-at}
+use Rattle.lists.proofs.Puts.{put-turn, put-end}
 use Rattle.blocks.proofs.WriteBack.{length-words, length-rules}
 
 at-words : (f : List ℕ) (n x : ℕ) → x < 3 * n → number (part f (slot x) 8) ≡ at (wordsIn f n) x
 unfolding wordsIn
-at-words f n x h = sym (at-series (3 * n) (λ y. number (part f (slot y) 8)) x h)
+at-words f n x h = sym (series-at 0 (3 * n) x (λ y. number (part f (slot y) 8)) h)
 
 at-rules : (f : List ℕ) (n m x : ℕ) → x < 6 * m → at f (512 * wordBlocks edition1 n + slot (x / 6) + x % 6) ≡ at (rulesIn f n m) x
 unfolding rulesIn
-at-rules f n m x h = sym (at-series (6 * m) (λ y. at f (512 * wordBlocks edition1 n + slot (y / 6) + y % 6)) x h)
+at-rules f n m x h = sym (series-at 0 (6 * m) x (λ y. at f (512 * wordBlocks edition1 n + slot (y / 6) + y % 6)) h)
 
 module _ (f : List ℕ) (n : ℕ) where
   pub words-turn : (a y : List ℕ) (x v : ℕ) → 3 * n ≤ length a → x < 3 * n → y ≡ put a 0 (take x (wordsIn f n)) → v ≡ number (part f (slot x) 8)

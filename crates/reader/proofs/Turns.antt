@@ -1,11 +1,11 @@
 -- One block after the other: what the machine's step makes of the file, and what the scan of all blocks answers.
 use mathlib.Core.Path.{_≡_, refl, sym, _∙_, subst}
 use mathlib.Core.List.{List}
-use Prim.Native.Nat.{ℕ, zero, suc, _+_, _-_, _*_, _/_, _%_, _≤_}
+use Prim.Native.Nat.{ℕ, zero, suc, _+_, _*_, _/_, _%_, _≤_, _-_}
 use native.Mathlib.Numerals.{add-one, sub-one}
 use native.Mathlib.Omega.{arith}
 use lib.ListN.{length, take, drop}
-use Rattle.blocks.specs.Bytes.{part, Under}
+use Rattle.lists.specs.Lists.{part, Under}
 use Rattle.blocks.specs.Edition.{edition1}
 use Rattle.blocks.specs.Block.{sum, Sound}
 use Rattle.blocks.specs.File.{blockAt, Begins, Whole, Fault}

@@ -3,9 +3,10 @@ use crate::Body;
 ghost use mathlib.Core.Path.{_≡_};
 ghost use Prim.Native.Nat.{_+_, _*_, _<_, _≤_};
 ghost use lib.ListN.{length};
-ghost use Rattle.blocks.specs.Bytes.{number, part};
+ghost use Rattle.blocks.specs.Bytes.{number};
+ghost use Rattle.lists.specs.Lists.{part};
 ghost use Rattle.blocks.specs.Block.{Sound, Clear, Records};
-ghost use Rattle.checker.specs.Tests.{Decides};
+ghost use Rattle.lists.specs.Tests.{Decides};
 ghost use Rattle.reader.specs.Tests.{Gaps, Is};
 
 fn wide(x: u8) -> u64

@@ -10,7 +10,7 @@ use crate::block::body_of;
 use blocks::Problem;
 use checker::SIZE;
 ghost use mathlib.Core.Path.{_≡_};
-ghost use Prim.Native.Nat.{_+_, _*_, _≤_};
+ghost use Prim.Native.Nat.{_+_, _*_, _≤_, _-_};
 ghost use lib.ListN.{length};
 ghost use Rattle.blocks.specs.Block.{Sound};
 ghost use Rattle.reader.specs.Scans.{Stepped, Stands, Turned, Scanned};

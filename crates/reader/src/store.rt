@@ -8,7 +8,7 @@ ghost use Prim.Native.Nat.{_+_, _*_, _<_, _≤_};
 ghost use lib.ListN.{length};
 ghost use Rattle.checker.specs.Lent.{stride, fields};
 ghost use Rattle.checker.specs.Refusal.{refusalWith};
-ghost use Rattle.blocks.specs.Bytes.{put};
+ghost use Rattle.lists.specs.Lists.{put};
 ghost use Rattle.blocks.specs.Edition.{edition1};
 ghost use Rattle.blocks.specs.Written.{wordBlocks, ruleBlocks};
 ghost use Rattle.blocks.specs.Decode.{slot, wordsIn, rulesIn};

@@ -10,7 +10,7 @@ use Rattle.words.proofs.Order.{bit-lt}
 use Rattle.rules.specs.Kinds.{Place}
 use Rattle.rules.specs.Meaning.{Shape}
 use Rattle.rules.specs.Fits.{Span, Uses, Legal, Fit, Hull}
-use Rattle.rules.proofs.Lists.{any-none}
+use Rattle.lists.proofs.Every.{any-none}
 use Rattle.rules.proofs.Listing.{fits, fits-sound, fits-complete}
 use Rattle.rules.proofs.ListedHull.{meet, join, fits-hull}
 use Rattle.reasons.specs.Says.{Answer, CONFLICT, FORCED, FREE, Says, says-conflict, says-forced, says-free}

@@ -10,9 +10,7 @@ use Rattle.rules.specs.Kinds.{Place}
 use Rattle.rules.specs.Meaning.{Shape}
 use Rattle.rules.specs.Fits.{Span, Uses, Legal}
 use Rattle.reasons.specs.Says.{Answer, CONFLICT, FORCED, FREE, Says}
-use Rattle.reasons.specs.Reason.{Spot, spot, entry, cleared, filled, placed, opened, Reason, all-seen, dropped, kept}
-use Rattle.reasons.specs.Reason.{fixedBit, fixedFrom, fixedAt, fixedOf}
-use Rattle.reasons.specs.Reason.{Explains, no-reason, with-reason}
+use Rattle.reasons.specs.Reason.{Spot, spot, entry, cleared, filled, placed, opened, Reason, all-seen, dropped, kept, fixedBit, fixedFrom, fixedAt, fixedOf, Explains, no-reason, with-reason}
 use Rattle.reasons.proofs.Opened.{opened-legal}
 use Rattle.reasons.proofs.Rising.{Rising, no-more, next, fixed-rising}
 use Rattle.reasons.proofs.Answered.{answerOf, answer-right, answer-only, sameb, same-sound, same-refl}

@@ -15,8 +15,7 @@ use Rattle.rules.specs.Rows.{uses}
 use Rattle.rules.specs.Meaning.{Shape}
 use Rattle.rules.specs.Fits.{Span}
 use Rattle.reasons.specs.Says.{Answer}
-use Rattle.reasons.specs.Reason.{Spot, spot, entry, Reason, all-seen, dropped, kept, Fixed, fixedBit, fixedFrom, fixedAt, fixedOf}
-use Rattle.reasons.specs.Reason.{Explains, no-reason, with-reason}
+use Rattle.reasons.specs.Reason.{Spot, spot, entry, Reason, all-seen, dropped, kept, Fixed, fixedBit, fixedFrom, fixedAt, fixedOf, Explains, no-reason, with-reason}
 use Rattle.reasons.specs.Alone.{listed}
 
 module _ (t : Span) (p : Place) where

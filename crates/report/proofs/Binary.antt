@@ -1,12 +1,12 @@
 -- A value in binary: how many digits, which, and one more of them put down.
 use mathlib.Core.Path.{_≡_, refl, ap, _∙_}
 use mathlib.Core.List.{List}
-use Prim.Native.Nat.{ℕ, zero, suc, _+_, _-_, _/_, _%_, _^_, _≤_, _<_}
+use Prim.Native.Nat.{ℕ, zero, suc, _+_, _/_, _%_, _^_, _≤_, _<_, _-_}
 use native.Mathlib.Omega.{arith}
 use lib.ListN.{length, take, set, getD}
 use Rattle.words.specs.Bits.{bit}
-use Rattle.lines.specs.Putting.{Appended}
-use Rattle.lines.proofs.Puts.{bytes-turn, bytes-end}
+use Rattle.decimal.specs.Putting.{Appended}
+use Rattle.decimal.proofs.Puts.{bytes-turn, bytes-end}
 use Rattle.report.specs.Text.{binary}
 
 pub length-binary : (w v : ℕ) → length (binary w v) ≡ w

@@ -2,8 +2,8 @@
 use mathlib.Core.Path.{_≡_, refl}
 use mathlib.Core.List.{[], _∷_}
 use Rattle.words.specs.Bits.{bit}
-use Rattle.lines.specs.Text.{digits, decimal}
-use Rattle.blocks.specs.Bytes.{flat}
+use Rattle.decimal.specs.Text.{digits, decimal}
+use Rattle.lists.specs.Lists.{flat}
 use Rattle.report.specs.Text.{items, line, binary, wordLines, causeLine, textOf, sat, unsat, named}
 
 -- sat 2 / 0 2 10 / 1 2 01 / 2 2 11

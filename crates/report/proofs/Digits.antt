@@ -1,6 +1,6 @@
 -- A value in binary, read digit by digit, is the value.
 use mathlib.Core.Path.{_≡_, ap, _∙_}
-use Prim.Native.Nat.{ℕ, zero, suc, _+_, _-_, _*_, _%_, _^_, _<_}
+use Prim.Native.Nat.{ℕ, zero, suc, _+_, _*_, _%_, _^_, _<_, _-_}
 use native.Mathlib.Nat.{pow-succ', mod-one, mul-one, mul-assoc, add-mul, add-assoc, add-zero, mod-eq-of-lt}
 use native.Mathlib.Omega.{arith}
 use lib.Pow.{mod-pow-add}

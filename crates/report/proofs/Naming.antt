@@ -5,6 +5,7 @@ use Prim.Native.Nat.{ℕ, _≤_}
 use native.Mathlib.Omega.{arith}
 use lib.ListN.{length, take}
 use lib.Seq.{ext-getD, getD-take, length-take-le}
+use Rattle.checker.proofs.Firsts.{refused-not-ok}
 use Rattle.checker.proofs.Right.{ok-fine}
 use Rattle.words.specs.Table.{Table}
 use Rattle.rules.specs.Tight.{Rule}
@@ -20,7 +21,6 @@ use Rattle.cause.proofs.Calling.{nothing-refused}
 use Rattle.report.specs.Text.{unsat, named, unnamed}
 use Rattle.report.specs.Printed.{Printed}
 use Rattle.report.specs.Promise.{none-named, none-unnamed, Asked, Told, told}
-use Rattle.report.proofs.Telling.{apart}
 
 -- a list of 252 entries does for a cause
 pub trials-asked : {limit g : ℕ} {ws bs l k : List ℕ} (s : List ℕ) → length s ≡ 252 → Asked limit ws bs l k → Comes limit ws bs (none g)
@@ -60,7 +60,7 @@ module _ {limit : ℕ} {ws bs s k : List ℕ} where
   not-exists (Causing.exists-at given x c) comes = no-exists limit ws bs x comes
 
   not-refused : {a b : ℕ} {s′ n : List ℕ} → Causing limit ws bs s k (caused.Refused a b) s′ n → Given limit ws bs s k → ⊥
-  not-refused (Causing.refused e) given = apart e (given .passed)
+  not-refused (Causing.refused e) given = refused-not-ok e (given .passed)
 
   module _ {r : Caused} {s′ n : List ℕ} (x : Causing limit ws bs s k r s′ n) where
     pub cause-room : {sum j : ℕ} → length s ≡ 252 → r ≡ caused.Cause sum j → (j ≤ 252) × (j ≤ length s′)

@@ -10,13 +10,12 @@ use Rattle.causes.proofs.One.{one-cause}
 use Rattle.solve.proofs.Once.{comes-once}
 use Rattle.blocks.specs.declared.Reading.{Reading}
 use Rattle.blocks.specs.Promise.{Room, Reads}
-use Rattle.blocks.proofs.Pieces.{length-zeros}
+use Rattle.lists.proofs.Pieces.{length-zeros}
 use Rattle.blocks.proofs.ReadBack.{one-problem}
 use Rattle.blocks.proofs.Promise.{read-once}
 use Rattle.report.specs.declared.Advised.{Advised}
 use Rattle.report.specs.Text.{Report}
-use Rattle.report.specs.Promise.{Answers, found-first, none-named, none-unnamed, gave-up-at}
-use Rattle.report.specs.Promise.{noWords, noRules, Reports, unread, answered, Advises, size, lines}
+use Rattle.report.specs.Promise.{Answers, found-first, none-named, none-unnamed, gave-up-at, noWords, noRules, Reports, unread, answered, Advises, size, lines}
 
 module _ (limit : ℕ) (ws bs : List ℕ) where
   answers-once : {x y : Report} → Answers limit ws bs x → Answers limit ws bs y → x ≡ y

@@ -6,12 +6,12 @@ use native.Mathlib.Nat.{zero-add}
 use native.Mathlib.Numerals.{add-one}
 use native.Mathlib.Omega.{arith}
 use lib.ListN.{length, take, drop, set, getD}
-use Rattle.lines.specs.Text.{decimal, spaced}
-use Rattle.lines.specs.Putting.{Appended}
-use Rattle.lines.proofs.Appends.{appended-none, appended-both}
-use Rattle.lines.proofs.Puts.{number-turn}
-use Rattle.blocks.specs.Bytes.{flat}
-use Rattle.blocks.proofs.Pieces.{flat-none, flat-more}
+use Rattle.decimal.specs.Text.{decimal, spaced}
+use Rattle.decimal.specs.Putting.{Appended}
+use Rattle.decimal.proofs.Appends.{appended-none, appended-both}
+use Rattle.decimal.proofs.Puts.{number-turn}
+use Rattle.lists.specs.Lists.{flat}
+use Rattle.lists.proofs.Pieces.{flat-none, flat-more}
 use Rattle.report.specs.Text.{items, line, Report, textOf, binary, wordLine}
 use Rattle.report.specs.Printed.{Printed}
 

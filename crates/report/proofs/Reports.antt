@@ -2,16 +2,14 @@
 use mathlib.Core.Path.{_≡_, sym, ap, _∙_}
 use mathlib.Core.List.{List, [], _∷_, _++_, map, append-assoc, append-nil}
 use Prim.Native.Nat.{ℕ, _≤_}
-use Rattle.words.specs.Table.{at}
+use Rattle.lists.specs.Lists.{at, flat}
 use Rattle.checker.specs.Lent.{wordCount, widthAt, widthsOf}
-use Rattle.checker.proofs.Series.{length-series, series-at}
-use Rattle.lines.specs.Text.{decimal, spaced}
-use Rattle.lines.specs.Putting.{Appended}
-use Rattle.lines.proofs.Appends.{appended-both}
-use Rattle.blocks.specs.Bytes.{flat}
-use Rattle.blocks.proofs.Pieces.{flat-same}
-use Rattle.report.specs.Text.{items, line, SAT, UNSAT, UNKNOWN, CAUSE, REFUSED, wordLine, causeLine, wordLines, textOf}
-use Rattle.report.specs.Text.{ToldCause, named, unnamed, sat, unsat, unknown, refused}
+use Rattle.lists.proofs.Series.{length-series, series-at}
+use Rattle.decimal.specs.Text.{decimal, spaced}
+use Rattle.decimal.specs.Putting.{Appended}
+use Rattle.decimal.proofs.Appends.{appended-both}
+use Rattle.lists.proofs.Pieces.{flat-same}
+use Rattle.report.specs.Text.{items, line, SAT, UNSAT, UNKNOWN, CAUSE, REFUSED, wordLine, causeLine, wordLines, textOf, ToldCause, named, unnamed, sat, unsat, unknown, refused}
 use Rattle.report.specs.Printed.{Printed}
 use Rattle.report.proofs.Puts.{spaced-items, pieces-end, printed}
 

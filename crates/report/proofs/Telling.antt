@@ -4,11 +4,11 @@ use mathlib.Core.List.{List, [], _∷_, _++_}
 use Prim.Native.Nat.{ℕ, _<_}
 use native.Mathlib.Omega.{arith}
 use lib.ListN.{length}
-use Rattle.words.specs.Table.{at}
-use Rattle.checker.specs.declared.Checked.{Checked}
+use Rattle.checker.proofs.Firsts.{refused-not-ok}
+use Rattle.lists.specs.Lists.{at}
 use Rattle.checker.specs.Lent.{wordCount, widthAt, widthsOf}
 use Rattle.checker.proofs.Right.{ok-fine}
-use Rattle.checker.proofs.Series.{length-series, series-at}
+use Rattle.lists.proofs.Series.{length-series, series-at}
 use Rattle.tighten.specs.Memory.{Cleared}
 use Rattle.search.specs.Search.{none}
 use Rattle.solve.specs.declared.Solved.{Solved}
@@ -16,8 +16,8 @@ use Rattle.solve.specs.declared.Solved.the-variants as solved
 use Rattle.solve.specs.Promise.{Comes, Solving}
 use Rattle.solve.specs.Promise as Solve
 use Rattle.solve.proofs.Calling.{nothing-refused}
-use Rattle.lines.specs.Text.{decimal}
-use Rattle.blocks.proofs.Pieces.{flat-same}
+use Rattle.decimal.specs.Text.{decimal}
+use Rattle.lists.proofs.Pieces.{flat-same}
 use Rattle.report.specs.Text.{line, SAT, wordLine, wordLines, Report, sat, unknown, textOf}
 use Rattle.report.specs.Printed.{Printed, Valued}
 use Rattle.report.specs.Promise.{found-first, gave-up-at, Asked, Told, told}
@@ -48,10 +48,6 @@ asked-after a c = record { lent = record { bytes = a .lent .bytes; work = omega 
 pub told-after : {limit e : ℕ} {ws bs l k n l′ n′ : List ℕ} → Cleared k n → Told limit ws bs l n e l′ n′ → Told limit ws bs l k e l′ n′
 told-after c (told a p d) = told a p (record { size = d .size ∙ c .size; zeros = d .zeros })
 
--- what is refused is not given
-pub apart : {n p : ℕ} {x : Checked} → x ≡ Checked.Refused n p → x ≡ Checked.Ok → ⊥
-apart a b = let z : _≡_ {A = ℕ} 0 1 = cc in omega arith
-
 -- ---- the search
 
 module _ {limit : ℕ} {ws bs m k : List ℕ} where
@@ -69,7 +65,7 @@ module _ {limit : ℕ} {ws bs m k : List ℕ} where
   gave-up-after (Solving.gave-up-at given s c) p = told (gave-up-at s) p c
 
   not-refused : {a b : ℕ} {m′ n : List ℕ} → Solving limit ws bs m k (solved.Refused a b) m′ n → Solve.Given limit ws bs m k → ⊥
-  not-refused (Solving.refused e) given = apart e (given .passed)
+  not-refused (Solving.refused e) given = refused-not-ok e (given .passed)
 
   module _ {r : Solved} {m′ n : List ℕ} (s : Solving limit ws bs m k r m′ n) where
     pub found-told : {g : ℕ} {l l′ : List ℕ} {e : ℕ} → r ≡ solved.Found g → Printed (sat g (widthsOf ws) m′) l l′ e → Told limit ws bs l k e l′ n

@@ -1,6 +1,6 @@
 -- What digits are worth, the highest first; digit 0 is byte 48.
 use mathlib.Core.List.{List, [], _∷_}
-use Prim.Native.Nat.{ℕ, _+_, _-_, _*_}
+use Prim.Native.Nat.{ℕ, _+_, _*_, _-_}
 
 -- the digits ds of base b behind the number a
 unfoldable pub behind : ℕ → ℕ → List ℕ → ℕ

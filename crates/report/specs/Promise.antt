@@ -12,7 +12,7 @@ use Rattle.causes.specs.Cause.{CAUSE, GAVE-UP}
 use Rattle.solve.specs.Promise.{Comes}
 use Rattle.cause.specs.Promise.{workLength, Named}
 use Rattle.blocks.specs.declared.Reading.{Reading}
-use Rattle.blocks.specs.Bytes.{zeros}
+use Rattle.lists.specs.Lists.{zeros}
 use Rattle.blocks.specs.Edition.{edition1}
 use Rattle.blocks.specs.Written.{IsFile}
 use Rattle.blocks.specs.Promise.{Reads}

@@ -4,9 +4,8 @@ use mathlib.Core.List.{List, [], _∷_, _++_, map}
 use Prim.Native.Nat.{ℕ, zero, suc, _+_}
 use lib.ListN.{length}
 use Rattle.words.specs.Bits.{bit}
-use Rattle.words.specs.Table.{at}
-use Rattle.lines.specs.Text.{decimal}
-use Rattle.blocks.specs.Bytes.{flat}
+use Rattle.lists.specs.Lists.{at, flat}
+use Rattle.decimal.specs.Text.{decimal}
 
 -- each item after a blank
 unfoldable pub items : List (List ℕ) → List ℕ

@@ -1,10 +1,10 @@
 // One line of the report, and what stands on it: a value in binary, entries of a list, a name and numbers.
 ghost use mathlib.Core.Path.{_≡_};
 ghost use mathlib.Core.List.{map};
-ghost use Prim.Native.Nat.{_+_, _*_, _≤_, _<_};
+ghost use Prim.Native.Nat.{_+_, _*_, _≤_, _<_, _-_};
 ghost use lib.ListN.{length, take};
-ghost use Rattle.lines.specs.Text.{decimal, spaced};
-ghost use Rattle.lines.specs.Putting.{Appended};
+ghost use Rattle.decimal.specs.Text.{decimal, spaced};
+ghost use Rattle.decimal.specs.Putting.{Appended};
 ghost use Rattle.report.specs.Text.{line, binary, wordLine};
 
 // The value in binary with exactly `width` digits, the highest bit first: where they end.
@@ -30,8 +30,8 @@ pub fn put_entries(out: &mut [u8], at: usize, list: &[u16], n: usize) -> usize
     let mut i = 0;
     let mut e = at;
     while i < n {
-        out[e] = lines::BLANK;
-        e = lines::number::put(out, e + 1, wide(list[i]));
+        out[e] = decimal::BLANK;
+        e = decimal::number::put(out, e + 1, wide(list[i]));
         i += 1;
     }
     e
@@ -51,9 +51,9 @@ pub fn put_line(out: &mut [u8], at: usize, name: &[u8], numbers: &[u64]) -> usiz
         × (r ≤ at + length (now (name .entry)) + 21 * length (now (numbers .entry)) + 1)
         ⌝ }
 {
-    let a = lines::put(out, at, name);
-    let b = lines::number::put_all(out, a, numbers);
-    lines::put(out, b, b"\n")
+    let a = decimal::put_bytes(out, at, name);
+    let b = decimal::number::put_all(out, a, numbers);
+    decimal::put_bytes(out, b, b"\n")
 }
 
 // The line of a word: number, width, value: where it ends.
@@ -61,9 +61,9 @@ pub fn put_word(out: &mut [u8], at: usize, number: u64, width: u64, value: u64) 
     requires { ⌜ (number < 100) × (width ≤ 64) × (at + 71 ≤ length (now out)) ⌝ }
     ensures { λ r. ⌜ Appended (now (out .entry)) at (wordLine number width value) (now (out .exit)) r × (r ≤ at + 71) ⌝ }
 {
-    let a = lines::number::put(out, at, number);
-    let b = lines::number::put_all(out, a, &[width]);
-    let c = lines::put(out, b, b" ");
+    let a = decimal::number::put(out, at, number);
+    let b = decimal::number::put_all(out, a, &[width]);
+    let c = decimal::put_bytes(out, b, b" ");
     let e = put_binary(out, c, width as usize, value);
-    lines::put(out, e, b"\n")
+    decimal::put_bytes(out, e, b"\n")
 }

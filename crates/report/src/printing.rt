@@ -7,7 +7,7 @@ use checker::STRIDE;
 ghost use Prim.Native.Nat.{_+_, _*_, _≤_};
 ghost use lib.ListN.{length, take};
 ghost use Rattle.checker.specs.Lent.{wordCount, widthsOf};
-ghost use Rattle.lines.specs.Putting.{Appended};
+ghost use Rattle.decimal.specs.Putting.{Appended};
 ghost use Rattle.report.specs.Text.{wordLines, causeLine, named, unnamed, sat, unsat, unknown, refused};
 ghost use Rattle.report.specs.Printed.{most, Printed, Valued};
 
@@ -31,10 +31,10 @@ fn put_cause(out: &mut [u8], at: usize, sum: u64, list: &[u16], n: usize) -> usi
     requires { ⌜ (n ≤ length (now list)) × (at + 6 * n + 27 ≤ length (now out)) ⌝ }
     ensures { λ r. ⌜ Appended (now (out .entry)) at (causeLine (named sum (take n (now (list .entry))))) (now (out .exit)) r ⌝ }
 {
-    let a = lines::put(out, at, b"cause");
-    let b = lines::number::put_all(out, a, &[sum]);
+    let a = decimal::put_bytes(out, at, b"cause");
+    let b = decimal::number::put_all(out, a, &[sum]);
     let e = put_entries(out, b, list, n);
-    lines::put(out, e, b"\n")
+    decimal::put_bytes(out, e, b"\n")
 }
 
 // FOUND: the count, and a line per word with its value of the model. How many bytes the report has.

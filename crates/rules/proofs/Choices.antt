@@ -5,7 +5,8 @@ use Prim.Native.Nat.{ℕ, zero, suc, _+_, _*_, _/_, _%_, _^_, _≤_, _<_}
 use native.Mathlib.Omega.{arith}
 use Rattle.words.specs.Bits.{_⊑_}
 use Rattle.words.proofs.Order.{⊑-low, ⊑-half}
-use Rattle.rules.proofs.Lists.{Any, here, any-left, any-right, any-map}
+use Rattle.lists.specs.Every.{Any, here}
+use Rattle.lists.proofs.Every.{any-left, any-right, any-map}
 
 -- one bit put below each value: the bit that both bounds have, or both bits where it is open
 abbrev pub spreadBit : ℕ → ℕ → List ℕ → List ℕ

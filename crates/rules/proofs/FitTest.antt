@@ -2,7 +2,8 @@
 use mathlib.Core.Bool.{Bool, true, false, not, _&&_, _||_}
 use Prim.Native.Nat.{ℕ}
 use lib.Dec.{T, eqb, leb, ltb, eqb→eq, eqb-refl, leb→le, le→leb, ltb→lt, lt→ltb, T-not, not-T}
-use Rattle.words.specs.Bits.{_⊑_, under}
+use Rattle.lists.proofs.Bools.{both}
+use Rattle.words.specs.Bits.{under, _⊑_}
 use Rattle.words.proofs.Ops.{under-sound, under-complete}
 use Rattle.rules.specs.Kinds.{Place, R, A, B, S, Rel, ULE, ULT, NE, Kind, op, rel}
 use Rattle.rules.specs.Rows.{uses}
@@ -33,10 +34,6 @@ holdsb-complete (rel ULT) w k f h = lt→ltb _ _ h
 holdsb-complete (rel NE) w k f h = not-T (eqb (f A) (f B)) (λ t. h (eqb→eq (f A) (f B) t))
 
 -- ---- two tests in one
-
-pub both : (a b : Bool) → T (a && b) → T a × T b
-both true b h = (tt, h)
-both false b h = absurd h
 
 pub pair : (a b : Bool) → T a → T b → T (a && b)
 pair true b x y = y

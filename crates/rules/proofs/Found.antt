@@ -6,7 +6,8 @@ use Prim.Native.Nat.{ℕ, _^_, _<_}
 use lib.Dec.{eqb}
 use lib.ListN.{length}
 use borrow.Author.Tests.{eqb-true, eqb-false}
-use Rattle.words.specs.Table.{Table, at}
+use Rattle.words.specs.Table.{Table}
+use Rattle.lists.specs.Lists.{at}
 use Rattle.words.specs.Count.{openBelow}
 use Rattle.words.proofs.Order.{⊑-trans}
 use Rattle.rules.specs.Kinds.{Place, R, A, B, S, kindOf}
@@ -17,7 +18,8 @@ use Rattle.rules.specs.Proper.{Proper}
 use Rattle.rules.specs.Tightening.{Conflict}
 use Rattle.rules.proofs.Hulls.{hull-from, hull-to}
 use Rattle.rules.proofs.Tight.{hull-tight}
-use Rattle.rules.proofs.Lists.{All, any-none}
+use Rattle.lists.specs.Every.{All}
+use Rattle.lists.proofs.Every.{any-none}
 use Rattle.rules.proofs.Listing.{fits, fits-sound, fits-complete}
 use Rattle.rules.proofs.ListedHull.{meet, join, fits-hull}
 use Rattle.rules.proofs.Propers.{proper-inside}

@@ -4,9 +4,11 @@ use mathlib.Core.List.{List}
 use Prim.Native.Nat.{ℕ}
 use lib.ListN.{length-set}
 use Rattle.words.specs.Bits.{_⊑_}
-use Rattle.words.specs.Table.{Table, Inside, at}
+use Rattle.words.specs.Table.{Table, Inside}
+use Rattle.lists.specs.Lists.{at}
 use Rattle.words.proofs.Order.{⊑-trans}
-use Rattle.words.proofs.Tables.{self, inside-trans, set-all}
+use Rattle.words.proofs.Tables.{self, inside-trans}
+use Rattle.lists.proofs.Sets.{set-all}
 use Rattle.rules.specs.Kinds.{Place}
 use Rattle.rules.specs.Fits.{Uses, Fit, Hull}
 use Rattle.rules.specs.Tight.{Rule, word, shape, span, TightAt}

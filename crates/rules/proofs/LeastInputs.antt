@@ -9,7 +9,8 @@ use native.Mathlib.Decide.{decLt, ℕ-discrete}
 use lib.Dec.{T}
 use lib.ListN.{length}
 use Rattle.words.specs.Bits.{bit}
-use Rattle.words.specs.Table.{Table, Inside, Open, at}
+use Rattle.words.specs.Table.{Table, Inside, Open}
+use Rattle.lists.specs.Lists.{at}
 use Rattle.words.proofs.Between.{open-between}
 use Rattle.rules.specs.Kinds.{Place, R, A, B, S, kindOf}
 use Rattle.rules.specs.Rows.{uses}

@@ -9,7 +9,6 @@ pub mod OneWidest
 pub mod Agree
 pub mod Propers
 pub mod ProperRules
-pub mod Lists
 pub mod Choices
 pub mod FitTest
 pub mod Listing

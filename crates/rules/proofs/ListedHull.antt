@@ -10,7 +10,8 @@ use Rattle.words.proofs.Ops.{bit-and, bit-or}
 use Rattle.rules.specs.Kinds.{Place}
 use Rattle.rules.specs.Meaning.{Shape}
 use Rattle.rules.specs.Fits.{Span, Uses, Fit, Hull}
-use Rattle.rules.proofs.Lists.{Any, here, there, All, any-imp, any-all}
+use Rattle.lists.specs.Every.{Any, here, there, All}
+use Rattle.lists.proofs.Every.{any-imp, any-all}
 use Rattle.rules.proofs.Listing.{fits, fits-sound, fits-complete}
 
 -- what all values at a place have, and what any of them has

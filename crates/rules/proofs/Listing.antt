@@ -12,7 +12,8 @@ use Rattle.rules.specs.Rows.{uses}
 use Rattle.rules.specs.Meaning.{Shape, result, Holds}
 use Rattle.rules.specs.Fits.{Span, Uses, Fit}
 use Rattle.rules.proofs.Used.{result-used, only-used}
-use Rattle.rules.proofs.Lists.{Any, here, All, each, sift, any-imp, any-sift, all-sift, any-map, any-each}
+use Rattle.lists.specs.Every.{Any, here, All}
+use Rattle.lists.proofs.Every.{each, sift, any-imp, any-sift, all-sift, any-map, any-each}
 use Rattle.rules.proofs.Choices.{choices, choices-all}
 use Rattle.rules.proofs.FitTest.{fitb, fitb-sound, fitb-complete}
 

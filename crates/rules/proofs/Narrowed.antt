@@ -1,35 +1,25 @@
 -- A table with new bounds for one word, inside those that it had: it lies inside the table, and it has fewer open bits unless the bounds are the same.
 use mathlib.Core.Path.{_≡_, sym, ap, _∙_}
 use mathlib.Core.Logic.{_⊎_, inl, inr}
-use mathlib.Core.List.{List, [], _∷_}
-use Prim.Native.Nat.{ℕ, zero, suc, _<_}
-use native.Mathlib.Nat.{suc-inj}
+use mathlib.Core.List.{[], _∷_}
+use Prim.Native.Nat.{ℕ, _<_}
 use native.Mathlib.Omega.{arith}
 use native.Mathlib.Decide.{ℕ-discrete}
 use lib.ListN.{length, set, length-set}
 use lib.Seq.{getD-set-same}
 use Rattle.words.specs.Bits.{bit, _⊑_}
-use Rattle.words.specs.Table.{Table, Inside, Open, at}
+use Rattle.words.specs.Table.{Table, Inside, Open}
+use Rattle.lists.specs.Lists.{at}
 use Rattle.words.specs.Count.{openBelow}
 use Rattle.words.proofs.Order.{⊑-refl, bit-lt}
-use Rattle.words.proofs.Tables.{set-all, in-reach}
+use Rattle.lists.proofs.Sets.{set-all, set-both}
+use Rattle.words.proofs.Tables.{in-reach}
 use Rattle.words.proofs.Falls.{open-falls}
 use Rattle.words.proofs.Between.{open-between}
 
 -- new bounds for word i
 unfoldable pub narrowed : Table → ℕ → ℕ → ℕ → Table
 narrowed t i l h = record { lo = set (t .lo) i l; hi = set (t .hi) i h }
-
--- the same place replaced in two lists of one length
-set-both : (P : ℕ → ℕ → Type 0) (l m : List ℕ) (i x y : ℕ) → length l ≡ length m → P x y → ((k : ℕ) → P (at l k) (at m k))
-    → (k : ℕ) → P (at (set l i x) k) (at (set m i y) k)
-set-both P [] [] i x y e p h k = h k
-set-both P [] (b ∷ m) i x y e p h k = absurd (omega arith)
-set-both P (a ∷ l) [] i x y e p h k = absurd (omega arith)
-set-both P (a ∷ l) (b ∷ m) zero x y e p h zero = p
-set-both P (a ∷ l) (b ∷ m) zero x y e p h (suc k) = h (suc k)
-set-both P (a ∷ l) (b ∷ m) (suc i) x y e p h zero = h zero
-set-both P (a ∷ l) (b ∷ m) (suc i) x y e p h (suc k) = set-both P l m i x y (suc-inj e) p (λ n. h (suc n)) k
 
 module _ {t : Table} (i l h : ℕ) (ok : Inside t t) (a : at (t .lo) i ⊑ l) (b : l ⊑ h) (c : h ⊑ at (t .hi) i) where
   pub narrowed-inside : Inside (narrowed t i l h) t

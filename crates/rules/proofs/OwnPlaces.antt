@@ -6,7 +6,8 @@ use mathlib.Core.List.{List}
 use Prim.Native.Nat.{ℕ}
 use native.Mathlib.Omega.{arith}
 use Rattle.words.specs.Bits.{bit, _⊑_}
-use Rattle.words.specs.Table.{Table, Inside, Open, at}
+use Rattle.words.specs.Table.{Table, Inside, Open}
+use Rattle.lists.specs.Lists.{at}
 use Rattle.words.proofs.Order.{⊑-refl}
 use Rattle.rules.specs.Kinds.{Place, R, A, B, S, kindOf}
 use Rattle.rules.specs.Fits.{Uses, Fit}

@@ -3,7 +3,8 @@ use mathlib.Core.Path.{refl, sym, _∙_}
 use mathlib.Core.List.{List}
 use Prim.Native.Nat.{ℕ, zero, suc, _+_, _≤_}
 use native.Mathlib.Omega.{arith}
-use Rattle.words.specs.Table.{Table, Inside, at}
+use Rattle.words.specs.Table.{Table, Inside}
+use Rattle.lists.specs.Lists.{at}
 use Rattle.words.specs.Count.{openBelow}
 use Rattle.words.proofs.Order.{⊑-refl, ⊑-le}
 use Rattle.words.proofs.Between.{open-width}

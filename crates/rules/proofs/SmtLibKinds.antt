@@ -1,7 +1,7 @@
 -- Each computing kind is SMT-LIB's own, over what that kind needs: no law asks for a place that the kind does not use, and none for a bound on k.
 use mathlib.Core.Path.{_≡_, refl, sym, ap, _∙_}
 use mathlib.Core.Logic.{_⊎_, inl, inr}
-use Prim.Native.Nat.{ℕ, zero, suc, _+_, _-_, _*_, _/_, _%_, _^_, _≤_, _<_, min, max}
+use Prim.Native.Nat.{ℕ, zero, suc, _+_, _*_, _/_, _%_, _^_, _≤_, _<_, min, max, _-_}
 use native.Mathlib.Nat.{mod-lt, mod-eq-of-lt, mod-add-div', add-mod, add-mul, add-mul-mod-self-right, mul-mod-left, mul-assoc, mul-right-comm}
 use native.Mathlib.Nat.{div-eq-of-lt, lt-of-le-of-lt, lt-of-lt-of-le}
 use native.Mathlib.Omega.{arith}

@@ -4,9 +4,8 @@ use mathlib.Core.Logic.{_≢_}
 use Prim.Native.Nat.{ℕ}
 use native.Mathlib.Omega.{arith}
 use lib.Dec.{T}
-use Rattle.rules.specs.Kinds.{Place, R, A, B, S, Kind, op, rel}
+use Rattle.rules.specs.Kinds.{Place, R, A, B, S, Kind, op, rel, Op, COPY, NOT, AND, OR, XOR, ADD, ITE, SLICE, JOIN, SHL, SHR, ULE, ULT, NE}
 use Rattle.rules.specs.Rows.{row, operand, uses}
-use Rattle.rules.specs.Kinds.{Op, COPY, NOT, AND, OR, XOR, ADD, ITE, SLICE, JOIN, SHL, SHR, ULE, ULT, NE}
 use Rattle.rules.specs.Meaning.{result, Holds}
 
 pub result-used : (o : Op) (w : Place → ℕ) (k a b s a′ b′ s′ : ℕ) → a ≡ a′ → (T (operand (row o) B) → b ≡ b′) → (T (operand (row o) S) → s ≡ s′)

@@ -9,7 +9,7 @@ use Rattle.words.specs.Count.{openBelow}
 use Rattle.rules.specs.Tight.{Rule, TightAt, Tight, rule}
 use Rattle.rules.specs.Proper.{Proper}
 use Rattle.rules.specs.Tightening.{Widest, Conflict, Tightened, TIGHT, CONFLICT, Tightens}
-use Rattle.rules.proofs.Lists.{All}
+use Rattle.lists.specs.Every.{All}
 use Rattle.rules.proofs.Propers.{proper-inside, proper-narrower, bitsBelow, open-bits}
 use Rattle.rules.proofs.Held.{Held, held-start, held-tight, held-widest, held-conflict}
 use Rattle.rules.proofs.Steps.{Step, onStep, loop, tightened}

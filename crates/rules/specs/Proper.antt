@@ -4,7 +4,8 @@ use mathlib.Core.List.{List}
 use Prim.Native.Nat.{ℕ, _<_}
 use lib.ListN.{length}
 use Rattle.words.specs.Word.{Width, Bounded}
-use Rattle.words.specs.Table.{Table, at}
+use Rattle.words.specs.Table.{Table}
+use Rattle.lists.specs.Lists.{at}
 
 -- Each word has a width and bounds; past the last word stand zeros, which are bounds of width 0
 pub record Proper (w : List ℕ) (t : Table) : Type 0 where

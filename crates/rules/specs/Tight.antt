@@ -5,7 +5,8 @@ use mathlib.Core.List.{List}
 use Prim.Native.Nat.{ℕ, _<_}
 use lib.ListN.{length, getD}
 use Rattle.words.specs.Bits.{bit}
-use Rattle.words.specs.Table.{Table, Open, at}
+use Rattle.words.specs.Table.{Table, Open}
+use Rattle.lists.specs.Lists.{at}
 use Rattle.rules.specs.Kinds.{Place, R, A, B, S, kindOf}
 use Rattle.rules.specs.Meaning.{Shape, Holds}
 use Rattle.rules.specs.Fits.{Span, Uses, Fit}

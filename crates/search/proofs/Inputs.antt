@@ -4,7 +4,8 @@ use mathlib.Core.List.{List}
 use Prim.Native.Nat.{ℕ, _≤_, _<_}
 use native.Mathlib.Omega.{arith}
 use native.Mathlib.Decide.{decLt}
-use Rattle.words.specs.Table.{Table, Inside, Open, Guess, at}
+use Rattle.words.specs.Table.{Table, Inside, Open, Guess}
+use Rattle.lists.specs.Lists.{at}
 use Rattle.words.specs.Count.{openBelow}
 use Rattle.words.proofs.Order.{bit-lt}
 use Rattle.words.proofs.Tables.{in-reach, word-closed, self}

@@ -6,7 +6,8 @@ use native.Mathlib.Omega.{arith}
 use lib.Dec.{ltb}
 use borrow.Author.Tests.{ltb-true, ltb-false}
 use lib.ListN.{length}
-use Rattle.words.specs.Table.{Table, Inside, Guess, at, with0, with1}
+use Rattle.words.specs.Table.{Table, Inside, Guess, with0, with1}
+use Rattle.lists.specs.Lists.{at}
 use Rattle.words.specs.Count.{openBelow}
 use Rattle.words.proofs.Tables.{self, in-reach, inside-trans}
 use Rattle.words.proofs.Fixing.{inside0, inside1}

@@ -8,7 +8,8 @@ use lib.ListN.{length, List·getD-eq-default}
 use lib.Count.{leadingZeros}
 use lib.Pow.{pow-mono}
 use Rattle.words.specs.Word.{topOpen}
-use Rattle.words.specs.Table.{Table, at, with0, with1}
+use Rattle.words.specs.Table.{Table, with0, with1}
+use Rattle.lists.specs.Lists.{at}
 use Rattle.words.proofs.Guessing.{pick}
 use Rattle.rules.specs.Tight.{Rule, Tight}
 use Rattle.rules.specs.Proper.{Proper}

@@ -2,7 +2,7 @@
 use mathlib.Core.Path.{_≡_}
 use mathlib.Core.Logic.{_≢_}
 use mathlib.Core.List.{List}
-use Prim.Native.Nat.{ℕ, _-_, _^_, _≤_}
+use Prim.Native.Nat.{ℕ, _^_, _≤_, _-_}
 use native.Mathlib.Nat.{le-antisymm, le-trans}
 use native.Mathlib.Omega.{arith}
 use lib.Count.{ones}

@@ -2,15 +2,15 @@
 use mathlib.Core.Path.{_≡_, ap, _∙_}
 use mathlib.Core.Logic.{inl, inr}
 use mathlib.Core.List.{List}
-use Prim.Native.Nat.{ℕ, _+_, _-_, _*_, _≤_, _<_}
+use Prim.Native.Nat.{ℕ, _+_, _*_, _≤_, _<_, _-_}
 use native.Mathlib.Omega.{arith}
 use native.Mathlib.Decide.{decLt}
 use lib.ListN.{length}
-use Rattle.words.specs.Table.{at}
+use Rattle.lists.specs.Lists.{at}
 use Rattle.rules.specs.Tight.{Rule, rule}
 use Rattle.tighten.specs.Memory.{tableIn, chosen, Outside}
 use Rattle.tighten.specs.Ready.{Listed}
-use Rattle.tighten.proofs.Calling.{series-same}
+use Rattle.lists.proofs.Series.{series-same}
 use Rattle.trail.specs.Trail.{copied, undone, RolledBack}
 use Rattle.trail.proofs.Undoing.{undone-same}
 use Rattle.searcher.specs.Guessing.{copyIn}

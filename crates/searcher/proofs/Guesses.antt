@@ -2,7 +2,7 @@
 use mathlib.Core.Path.{_≡_, sym, ap, _∙_}
 use mathlib.Core.Logic.{_≢_, inr}
 use mathlib.Core.List.{List}
-use Prim.Native.Nat.{ℕ, _+_, _-_, _^_, _≤_, _<_}
+use Prim.Native.Nat.{ℕ, _+_, _^_, _≤_, _<_, _-_}
 use native.Mathlib.Nat.{zero-add}
 use native.Mathlib.Omega.{arith}
 use native.Mathlib.Decide.{decLt}
@@ -11,13 +11,15 @@ use lib.ListN.{length, take, drop, set, length-set}
 use lib.Seq.{take-set-le, drop-set-lt, getD-set-other}
 use Rattle.words.specs.Bits.{bit}
 use Rattle.words.specs.Word.{topOpen}
-use Rattle.words.specs.Table.{Inside, Open, Guess, Done, at, with0, with1}
+use Rattle.words.specs.Table.{Inside, Open, Guess, Done, with0, with1}
+use Rattle.lists.specs.Lists.{at}
 use Rattle.words.proofs.Order.{⊑-le, bit-of-zero, bits-ext}
 use Rattle.words.proofs.Ops.{bit-xor}
 use Rattle.words.proofs.Tables.{in-reach, table-path}
 use Rattle.words.proofs.Single.{top-open}
 use Rattle.tighten.specs.Memory.{tableIn}
-use Rattle.tighten.proofs.Memory.{take-set-lt, drop-set-add, low-at, high-at, highs}
+use Rattle.lists.proofs.Sets.{take-set-lt, drop-set-add}
+use Rattle.tighten.proofs.Memory.{low-at, high-at, highs}
 use Rattle.trail.specs.Trail.{copied, Moved}
 use Rattle.searcher.specs.Guessing.{copyIn, topAt, zeroAt, oneAt, Lowest, Fixable, zeroFixed, oneFixed, Copied, Second}
 use Rattle.searcher.proofs.Tables.{table-as, copy-low, copy-high, copy-lows, copy-highs}

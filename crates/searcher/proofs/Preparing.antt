@@ -3,11 +3,12 @@ use mathlib.Core.Path.{_≡_, sym, ap, subst, _∙_}
 use mathlib.Core.Bool.{Bool, true, false}
 use mathlib.Core.Logic.{_≢_}
 use mathlib.Core.List.{List}
-use Prim.Native.Nat.{ℕ, _+_, _-_, _*_, _^_, _≤_, _<_}
+use Prim.Native.Nat.{ℕ, _+_, _*_, _^_, _≤_, _<_, _-_}
 use native.Mathlib.Omega.{arith}
 use lib.ListN.{length, length-set}
 use lib.Seq.{getD-set-other}
-use Rattle.words.specs.Table.{Inside, Guess, at}
+use Rattle.words.specs.Table.{Inside, Guess}
+use Rattle.lists.specs.Lists.{at}
 use Rattle.words.specs.Count.{openBelow}
 use Rattle.words.proofs.Tables.{self, inside-trans}
 use Rattle.rules.specs.Tightening.{Widest}

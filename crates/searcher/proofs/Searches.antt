@@ -7,7 +7,8 @@ use native.Mathlib.Numerals.{add-one}
 use native.Mathlib.Omega.{arith}
 use lib.ListN.{length}
 use Rattle.words.specs.Bits.{bit}
-use Rattle.words.specs.Table.{Table, Inside, at}
+use Rattle.words.specs.Table.{Table, Inside}
+use Rattle.lists.specs.Lists.{at}
 use Rattle.words.specs.Count.{openBelow}
 use Rattle.words.proofs.Tables.{self, in-reach}
 use Rattle.words.proofs.Fixing.{inside0, inside1}

@@ -6,11 +6,13 @@ use Prim.Native.Nat.{ℕ, zero, suc, _+_, _*_, _≤_, _<_}
 use native.Mathlib.Nat.{zero-add}
 use native.Mathlib.Omega.{arith}
 use lib.ListN.{length}
-use Rattle.words.specs.Table.{Table, at}
+use Rattle.words.specs.Table.{Table}
+use Rattle.lists.specs.Lists.{at}
 use Rattle.rules.specs.Tight.{Tight}
 use Rattle.rules.proofs.Propers.{proper-inside, bitsBelow, open-bits}
 use Rattle.checker.specs.Lent.{wordCount, widthsOf, tableOf, rulesOf, loAt, hiAt}
-use Rattle.checker.proofs.Series.{length-series, lo-at, hi-at}
+use Rattle.lists.proofs.Series.{length-series}
+use Rattle.checker.proofs.Series.{lo-at, hi-at}
 use Rattle.tighten.specs.Memory.{tableIn, Loaded}
 use Rattle.trail.specs.Trail.{copied, Moved}
 use Rattle.search.specs.Search.{Search}

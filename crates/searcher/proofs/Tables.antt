@@ -5,7 +5,8 @@ use Prim.Native.Nat.{ℕ, _+_, _≤_, _<_}
 use native.Mathlib.Omega.{arith}
 use lib.ListN.{length, drop, length-drop}
 use lib.Seq.{ext-getD, getD-drop}
-use Rattle.words.specs.Table.{Table, at}
+use Rattle.words.specs.Table.{Table}
+use Rattle.lists.specs.Lists.{at}
 use Rattle.words.proofs.Tables.{table-path}
 use Rattle.tighten.specs.Memory.{tableIn}
 use Rattle.tighten.proofs.Memory.{low-at, high-at, lows, highs}

@@ -2,11 +2,12 @@
 use mathlib.Core.Path.{_≡_}
 use mathlib.Core.Logic.{_≢_}
 use mathlib.Core.List.{List}
-use Prim.Native.Nat.{ℕ, _+_, _-_, _^_, _≤_, _<_}
+use Prim.Native.Nat.{ℕ, _+_, _^_, _≤_, _<_, _-_}
 use lib.ListN.{length, drop, set}
 use Rattle.words.specs.Bits.{_⊑_}
 use Rattle.words.specs.Word.{topOpen}
-use Rattle.words.specs.Table.{Table, at, with0, with1}
+use Rattle.words.specs.Table.{Table, with0, with1}
+use Rattle.lists.specs.Lists.{at}
 use Rattle.tighten.specs.Memory.{tableIn}
 
 -- the copy of n words, as a table

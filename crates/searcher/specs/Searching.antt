@@ -1,9 +1,10 @@
 -- What the search asks of lent memory, and what it leaves there.
 use mathlib.Core.Path.{_≡_}
 use mathlib.Core.List.{List}
-use Prim.Native.Nat.{ℕ, _+_, _-_, _*_, _≤_, _<_}
+use Prim.Native.Nat.{ℕ, _+_, _*_, _≤_, _<_, _-_}
 use lib.ListN.{length}
-use Rattle.words.specs.Table.{Table, Inside, Guess, at}
+use Rattle.words.specs.Table.{Table, Inside, Guess}
+use Rattle.lists.specs.Lists.{at}
 use Rattle.words.specs.Count.{openBelow}
 use Rattle.rules.specs.Tight.{Tight}
 use Rattle.rules.specs.Tightening.{Widest}

@@ -17,7 +17,7 @@ use Rattle.checker.specs.Refusal.{refusal, refusalWith, room}
 use Rattle.checker.specs.Promise.{Fine}
 use Rattle.checker.proofs.Right.{ok-fine, no-limit}
 use Rattle.checker.proofs.Rooms.{has-room}
-use Rattle.checker.proofs.Series.{length-series}
+use Rattle.lists.proofs.Series.{length-series}
 use Rattle.tighten.specs.declared.Answer.{Answer}
 use Rattle.tighten.specs.Promise as Tighten
 use Rattle.search.proofs.Limit.{answer-found, answer-none, count-limit}
@@ -45,8 +45,7 @@ use Rattle.report.specs.Printed.{most}
 use Rattle.report.specs.Promise as Report
 use Rattle.report.proofs.Advising.{lines-within}
 use Rattle.packing.specs.Packed.{parts, Within, checked, tightened, solved, explained, caused, read, written, advised}
-use Rattle.sievecrest.proofs.Refusals.{Small, check-refused, tighten-refused, solve-refused, explain-refused}
-use Rattle.sievecrest.proofs.Refusals.{cause-refused, read-refused, write-refused, advise-refused}
+use Rattle.sievecrest.proofs.Refusals.{Small, check-refused, tighten-refused, solve-refused, explain-refused, cause-refused, read-refused, write-refused, advise-refused}
 
 within : (n c m : ℕ) → n < 256 → c < 4294967296 → m < 16777216 → Within (parts n c m)
 within n c m a b d = record { number = a; count = b; more = d }

@@ -6,13 +6,14 @@ use native.Mathlib.Omega.{arith}
 use native.Mathlib.Decide.{decLe}
 use lib.ListN.{length, take, length-take}
 use lib.Seq.{ext-getD, getD-take}
-use Rattle.words.specs.Table.{Table, at}
+use Rattle.words.specs.Table.{Table}
+use Rattle.lists.specs.Lists.{at}
 use Rattle.rules.specs.Tight.{Tight, AllHold}
 use Rattle.rules.specs.Proper.{Proper}
 use Rattle.rules.specs.Tightening.{Widest, Conflict}
 use Rattle.checker.specs.declared.Checked.the-variants.{Refused}
 use Rattle.checker.specs.Lent.{wordCount, widthsOf, tableOf, rulesOf, loAt}
-use Rattle.checker.proofs.Series.{length-series}
+use Rattle.lists.proofs.Series.{length-series}
 use Rattle.tighten.specs.Memory.{Cleared}
 use Rattle.search.specs.Settings.{First, Without}
 use Rattle.search.specs.Search.{Outcome, found, none, gave-up, count}
@@ -24,8 +25,7 @@ use Rattle.search.proofs.Problem.{outcome-right, gave-up-just, conflict-no-gues
 use Rattle.search.proofs.TheCeiling.{count-ceiling, ceiling-reached}
 use Rattle.solve.specs.declared.Solved.{Solved}
 use Rattle.solve.specs.declared.Solved.the-variants as answer
-use Rattle.solve.specs.Promise.{refusalHere, Given, Comes, Solving, refused, found-first, found-none, gave-up-at}
-use Rattle.solve.specs.Promise.{Answered, reached-found, reached-none, not-reached}
+use Rattle.solve.specs.Promise.{refusalHere, Given, Comes, Solving, refused, found-first, found-none, gave-up-at, Answered, reached-found, reached-none, not-reached}
 use Rattle.solve.proofs.Calling.{model-room, fine}
 use Rattle.solve.proofs.Once.{comes-once}
 

@@ -6,12 +6,12 @@ use mathlib.Core.List.{List, [], _∷_}
 use Prim.Native.Nat.{ℕ, _≤_}
 use native.Mathlib.Omega.{arith}
 use lib.ListN.{length}
-use Rattle.words.specs.Table.{at}
+use Rattle.lists.specs.Lists.{at, series}
 use Rattle.rules.specs.Kinds.{kindOf}
 use Rattle.rules.specs.Tight.{Tight}
 use Rattle.rules.proofs.Steps.{tightened}
 use Rattle.checker.specs.declared.Checked.the-variants.{Refused}
-use Rattle.checker.specs.Lent.{series, widthsOf, tableOf, rulesOf}
+use Rattle.checker.specs.Lent.{widthsOf, tableOf, rulesOf}
 use Rattle.checker.specs.Tests.{sized, areFields, isFitting}
 use Rattle.checker.specs.Refusal.{refusalWith, refusal, firstOf, wordRefusal, ruleRefusal}
 use Rattle.search.specs.Search.{Outcome, found}

@@ -6,7 +6,7 @@ use native.Mathlib.Omega.{arith}
 use native.Mathlib.Decide.{ℕ-discrete, decLt}
 use lib.ListN.{length, set, length-set}
 use lib.Seq.{ext-getD, getD-set-same, getD-set-other}
-use Rattle.words.specs.Table.{at}
+use Rattle.lists.specs.Lists.{at}
 use Rattle.solve.specs.Promise.{Stored}
 
 pub stored-start : (v m : List ℕ) → Stored 0 v m m

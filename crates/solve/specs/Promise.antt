@@ -3,7 +3,7 @@ use mathlib.Core.Path.{_≡_}
 use mathlib.Core.List.{List}
 use Prim.Native.Nat.{ℕ, _≤_, _<_}
 use lib.ListN.{length}
-use Rattle.words.specs.Table.{at}
+use Rattle.lists.specs.Lists.{at}
 use Rattle.rules.specs.Tight.{Tight, AllHold}
 use Rattle.checker.specs.declared.Checked.{Checked}
 use Rattle.checker.specs.declared.Checked.the-variants.{Ok, Refused}

@@ -6,7 +6,8 @@ use Prim.Native.Nat.{ℕ, _≤_, _<_}
 use lib.Bits.{bitAnd, bitOr}
 use lib.ListN.{length}
 use Rattle.words.specs.Bits.{_⊑_}
-use Rattle.words.specs.Table.{Table, Inside, at}
+use Rattle.words.specs.Table.{Table, Inside}
+use Rattle.lists.specs.Lists.{at}
 use Rattle.rules.specs.Kinds.{Place, R, A, B, S}
 use Rattle.rules.specs.Tight.{Rule, word, shape, span, TightAt}
 use Rattle.rules.proofs.Held.{held-start}

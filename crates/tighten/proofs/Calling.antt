@@ -7,16 +7,17 @@ use native.Mathlib.Omega.{arith}
 use native.Mathlib.Decide.{ℕ-discrete}
 use lib.ListN.{length, set, length-set}
 use lib.Seq.{ext-getD, getD-set-same, getD-set-other}
-use Rattle.words.specs.Table.{at}
+use Rattle.lists.specs.Lists.{at, series}
 use Rattle.words.proofs.Tables.{table-path}
 use Rattle.rules.specs.Tight.{rule}
-use Rattle.checker.specs.Lent.{stride, wordCount, widthAt, loAt, hiAt, tableOf, ruleCount, ruleAt, rulesOf, series}
+use Rattle.checker.specs.Lent.{stride, wordCount, widthAt, loAt, hiAt, tableOf, ruleCount, ruleAt, rulesOf}
 use Rattle.checker.specs.declared.Checked.the-variants.{Ok, Refused}
 use Rattle.checker.specs.Demands.{Sized}
 use Rattle.checker.specs.Refusal.{refusal}
 use Rattle.checker.proofs.Right.{ok-fine, no-limit}
 use Rattle.checker.proofs.Rooms.{too-short, enough, has-room}
-use Rattle.checker.proofs.Series.{length-series, series-at, rule-at}
+use Rattle.lists.proofs.Series.{length-series, series-at, series-same}
+use Rattle.checker.proofs.Series.{rule-at}
 use Rattle.tighten.specs.declared.Answer.{Answer}
 use Rattle.tighten.specs.declared.Answer.the-variants as answer
 use Rattle.tighten.specs.Memory.{tableIn, chosen, Loaded, Numbered, Cleared, putBounds}
@@ -24,12 +25,6 @@ use Rattle.tighten.specs.Ready.{Ready, Listed, Settled}
 use Rattle.tighten.specs.Promise.{workLength, refusalHere, Given, WithBounds, Ended, ended-tight, ended-conflict, Tightening, refused, tight, conflict}
 use Rattle.tighten.proofs.Memory.{low-at, high-at, lows, highs}
 use Rattle.tighten.proofs.Buffers.{put-length}
-
--- two series that agree are one
-pub series-same : {A : Type 0} (n : ℕ) (f g : ℕ → A) → ((i : ℕ) → i < n → f i ≡ g i) → series n f ≡ series n g
-unfolding series
-series-same zero f g h = refl
-series-same (suc n) f g h = cc (h 0 (omega arith), series-same n (λ i. f (suc i)) (λ i. g (suc i)) (λ i l. h (suc i) (omega arith)))
 
 -- a table in memory, by its bounds
 table-is : (n : ℕ) (l : List ℕ) (f g : ℕ → ℕ) → n ≤ 32 → 64 ≤ length l → ((i : ℕ) → i < n → at l i ≡ f i) → ((i : ℕ) → i < n → at l (i + 32) ≡ g i)

@@ -9,8 +9,9 @@ use borrow.Author.Tests.{eqb-true, eqb-false}
 use lib.Bits.{bitAnd, bitOr}
 use lib.ListN.{length, set}
 use lib.Seq.{set-getD}
-use Rattle.words.specs.Bits.{_⊑_, under}
-use Rattle.words.specs.Table.{Table, Inside, at}
+use Rattle.words.specs.Bits.{under, _⊑_}
+use Rattle.words.specs.Table.{Table, Inside}
+use Rattle.lists.specs.Lists.{at}
 use Rattle.words.specs.Count.{openBelow}
 use Rattle.words.proofs.Meets.{⊑-or-l, and-⊑-l}
 use Rattle.words.proofs.Ops.{under-sound, under-complete}

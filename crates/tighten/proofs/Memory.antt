@@ -2,28 +2,18 @@
 use mathlib.Core.Path.{_≡_, refl, ap, _∙_}
 use mathlib.Core.Logic.{_⊎_, inl, inr}
 use mathlib.Core.List.{List, [], _∷_}
-use Prim.Native.Nat.{ℕ, zero, suc, _+_, _≤_, _<_}
-use native.Mathlib.Nat.{add-comm, add-zero, add-suc, le-of-suc-le-suc}
+use Prim.Native.Nat.{ℕ, _+_, _≤_, _<_}
+use native.Mathlib.Nat.{add-comm}
 use native.Mathlib.Omega.{arith}
 use lib.ListN.{length, take, drop, set, length-take, length-drop, length-set}
 use lib.Seq.{getD-take, getD-drop, take-set-le, drop-set-lt, getD-set-other}
-use Rattle.words.specs.Table.{at}
+use Rattle.lists.proofs.Sets.{take-set-lt, drop-set-add}
+use Rattle.lists.specs.Lists.{at}
 use Rattle.words.proofs.Tables.{table-path}
 use Rattle.rules.proofs.Narrowed.{narrowed}
 use Rattle.tighten.specs.Memory.{tableIn, Outside}
 
 -- ---- lists
-
-pub take-set-lt : {A : Type 0} (n : ℕ) (l : List A) (i : ℕ) (a : A) → i < n → take n (set l i a) ≡ set (take n l) i a
-take-set-lt zero l i a h = absurd (omega arith)
-take-set-lt (suc n) [] i a h = refl
-take-set-lt (suc n) (x ∷ l) zero a h = refl
-take-set-lt (suc n) (x ∷ l) (suc i) a h = ap (λ r. x ∷ r) (take-set-lt n l i a (le-of-suc-le-suc h))
-
-pub drop-set-add : {A : Type 0} (k : ℕ) (l : List A) (i : ℕ) (a : A) → drop k (set l (i + k) a) ≡ set (drop k l) i a
-drop-set-add zero l i a = ap (λ j. set l j a) (add-zero i)
-drop-set-add (suc k) [] i a = refl
-drop-set-add (suc k) (x ∷ l) i a = ap (λ j. drop (suc k) (set (x ∷ l) j a)) (add-suc i k) ∙ drop-set-add k l i a
 
 -- ---- the table
 

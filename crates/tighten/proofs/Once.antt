@@ -5,11 +5,11 @@ use Prim.Native.Nat.{ℕ, zero, suc, _+_, _*_, _/_, _%_}
 use native.Mathlib.Omega.{arith}
 use lib.ListN.{length}
 use lib.Seq.{ext-getD}
-use Rattle.words.specs.Table.{Table, at}
+use Rattle.checker.proofs.Firsts.{refused-not-ok}
+use Rattle.words.specs.Table.{Table}
+use Rattle.lists.specs.Lists.{at}
 use Rattle.rules.specs.Tight.{Tight}
 use Rattle.rules.proofs.OneWidest.{one-widest, not-both}
-use Rattle.checker.specs.declared.Checked.{Checked}
-use Rattle.checker.specs.declared.Checked.the-variants.{Ok, Refused}
 use Rattle.checker.specs.Lent.{stride, widthAt, loAt, hiAt, widthsOf, tableOf, rulesOf}
 use Rattle.checker.proofs.Series.{width-at, lo-at, hi-at}
 use Rattle.tighten.specs.declared.Answer.{Answer}
@@ -53,21 +53,18 @@ bounds-once {ws} {us} {vs} whole e x y = ext-getD 0 us vs (x .size ∙ sym (y .s
         rw s at (high (j / stride))
     go j (suc (suc (suc r))) q = absurd (omega arith)
 
-other : {n p : ℕ} {x : Checked} → x ≡ Refused n p → x ≡ Ok → ⊥
-other a b = let z : _≡_ {A = ℕ} 0 1 = cc in omega arith
-
 pub tighten-once : {ws bs l : List ℕ} {x y : Answer} {us vs m n : List ℕ} → Tightening ws bs l x us m → Tightening ws bs l y vs n
     → (x ≡ y) × (us ≡ vs) × (m ≡ n)
 tighten-once (refused a) (refused b) = (cc, refl, refl)
-tighten-once (refused a) (tight b w v c) = absurd (other a b)
-tighten-once (refused a) (conflict b w c) = absurd (other a b)
-tighten-once (tight a w v c) (refused b) = absurd (other b a)
+tighten-once (refused a) (tight b w v c) = absurd (refused-not-ok a b)
+tighten-once (refused a) (conflict b w c) = absurd (refused-not-ok a b)
+tighten-once (tight a w v c) (refused b) = absurd (refused-not-ok b a)
 tighten-once {ws} {bs} {l} (tight {u = u} a w v c) (tight {u = u′} b w′ v′ c′) = (
   refl,
   bounds-once (here-sized ws bs l a .whole-words) (one-widest (Tight (widthsOf ws) (rulesOf bs)) (tableOf ws) u u′ w w′) v v′,
   cleared-once c c′,
 )
 tighten-once {ws} {bs} (tight a w v c) (conflict b w′ c′) = absurd (not-both (Tight (widthsOf ws) (rulesOf bs)) w w′)
-tighten-once (conflict a w c) (refused b) = absurd (other b a)
+tighten-once (conflict a w c) (refused b) = absurd (refused-not-ok b a)
 tighten-once {ws} {bs} (conflict a w c) (tight b w′ v′ c′) = absurd (not-both (Tight (widthsOf ws) (rulesOf bs)) w′ w)
 tighten-once (conflict a w c) (conflict b w′ c′) = (refl, refl, cleared-once c c′)

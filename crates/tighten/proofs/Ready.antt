@@ -6,7 +6,7 @@ use Prim.Native.Nat.{ℕ, _*_, _≤_, _<_}
 use native.Mathlib.Omega.{arith}
 use lib.Dec.{T}
 use lib.ListN.{length}
-use Rattle.words.specs.Table.{at}
+use Rattle.lists.specs.Lists.{at}
 use Rattle.rules.specs.Kinds.{Place, R, A, B, S, Kind, op, rel, kindOf, widthOf}
 use Rattle.rules.specs.Rows.{uses}
 use Rattle.rules.specs.Fits.{Legal}
@@ -19,7 +19,8 @@ use Rattle.hull.specs.declared.Narrowed.{Narrowed}
 use Rattle.rules.specs.declared.Widths.{Widths}
 use Rattle.hull.specs.Narrowing.{loOf, hiOf, shapeOf, spanOf, Narrows}
 use Rattle.checker.specs.Lent.{fields, wordCount, widthAt, widthsOf, ruleCount, ruleAt}
-use Rattle.checker.proofs.Series.{length-series, width-at, rule-at}
+use Rattle.lists.proofs.Series.{length-series}
+use Rattle.checker.proofs.Series.{width-at, rule-at}
 use Rattle.tighten.specs.Memory.{tableIn}
 use Rattle.tighten.specs.declared.Met.{Met}
 use Rattle.tighten.specs.declared.Numbers.{Numbers}

@@ -6,7 +6,7 @@ use lib.Dec.{eqb}
 use lib.Bits.{bitAnd, bitOr}
 use lib.ListN.{set}
 use Rattle.words.specs.Bits.{under}
-use Rattle.words.specs.Table.{at}
+use Rattle.lists.specs.Lists.{at}
 use Rattle.hull.specs.declared.Bounds.{Bounds}
 use Rattle.rules.specs.declared.Widths.{Widths}
 use Rattle.checker.specs.Lent.{stride, fields}

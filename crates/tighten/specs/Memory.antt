@@ -4,9 +4,10 @@ use mathlib.Core.Logic.{_⊎_}
 use mathlib.Core.List.{List}
 use Prim.Native.Nat.{ℕ, zero, suc, _+_, _*_, _≤_, _<_}
 use lib.ListN.{length, take, drop, set}
-use Rattle.words.specs.Table.{Table, at}
+use Rattle.words.specs.Table.{Table}
+use Rattle.lists.specs.Lists.{at, series}
 use Rattle.rules.specs.Tight.{Rule, rule}
-use Rattle.checker.specs.Lent.{stride, loAt, hiAt, series}
+use Rattle.checker.specs.Lent.{stride, loAt, hiAt}
 
 -- the table of n words
 unfoldable pub tableIn : ℕ → List ℕ → Table

@@ -7,7 +7,8 @@ use native.Mathlib.Omega.{arith}
 use native.Mathlib.Decide.{ℕ-discrete, decLt}
 use lib.Count.{ones, ones-step}
 use Rattle.words.specs.Bits.{_⊑_}
-use Rattle.words.specs.Table.{Table, Inside, at}
+use Rattle.words.specs.Table.{Table, Inside}
+use Rattle.lists.specs.Lists.{at}
 use Rattle.words.specs.Count.{openBelow}
 use Rattle.words.proofs.Order.{⊑-half, ⊑-low, ⊑-trans}
 use Rattle.words.proofs.Falls.{open-ones, ones-mono}

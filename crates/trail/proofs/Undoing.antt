@@ -2,9 +2,9 @@
 use mathlib.Core.Path.{_≡_, refl, sym, ap, _∙_}
 use mathlib.Core.Logic.{inr}
 use mathlib.Core.List.{List}
-use Prim.Native.Nat.{ℕ, zero, suc, _+_, _-_, _*_, _≤_, _<_}
+use Prim.Native.Nat.{ℕ, zero, suc, _+_, _*_, _≤_, _<_, _-_}
 use native.Mathlib.Omega.{arith}
-use Rattle.words.specs.Table.{at}
+use Rattle.lists.specs.Lists.{at}
 use Rattle.trail.specs.Trail.{copied, without, undone, CopyOnly, Back, RolledBack}
 
 -- two memories with the same entries, and numbers that agree on the copy, give the same

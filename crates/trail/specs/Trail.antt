@@ -3,11 +3,11 @@ use mathlib.Core.Path.{_≡_}
 use mathlib.Core.Bool.{not, cond}
 use mathlib.Core.Logic.{_⊎_}
 use mathlib.Core.List.{List}
-use Prim.Native.Nat.{ℕ, zero, suc, _+_, _-_, _*_, _≤_, _<_}
+use Prim.Native.Nat.{ℕ, zero, suc, _+_, _*_, _≤_, _<_, _-_}
 use lib.Dec.{eqb}
 use lib.ListN.{length}
 use Rattle.words.specs.Bits.{one}
-use Rattle.words.specs.Table.{at}
+use Rattle.lists.specs.Lists.{at}
 
 -- 1 where two numbers differ, else 0
 abbrev pub apart : ℕ → ℕ → ℕ

@@ -3,7 +3,7 @@
 ghost use mathlib.Core.Logic.{_⊎_};
 ghost use Prim.Native.Nat.{_+_, _*_, _<_, _≤_};
 ghost use lib.ListN.{length};
-ghost use Rattle.words.specs.Table.{at};
+ghost use Rattle.lists.specs.Lists.{at};
 ghost use Rattle.trail.specs.Trail.{apart, changes, Kept, Committed, Back, RolledBack, Moved};
 
 // Where the copy and the trail begin.

@@ -7,7 +7,8 @@ use lib.Bits.{bitXor}
 use lib.ListN.{length}
 use Rattle.words.specs.Bits.{bit}
 use Rattle.words.specs.Word.{topOpen}
-use Rattle.words.specs.Table.{Table, Inside, Open, Guess, Done, at}
+use Rattle.words.specs.Table.{Table, Inside, Open, Guess, Done}
+use Rattle.lists.specs.Lists.{at}
 use Rattle.words.proofs.Order.{bit-of-zero, ⊑-le}
 use Rattle.words.proofs.Ops.{bit-xor}
 use Rattle.words.proofs.Tables.{in-reach}

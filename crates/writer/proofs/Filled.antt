@@ -1,19 +1,17 @@
 -- Records put one after the other behind a header, and a block made whole.
 use mathlib.Core.Path.{_≡_, refl, sym, ap, _∙_, subst}
-use mathlib.Core.List.{List, [], _++_, append-nil, append-assoc}
-use Prim.Native.Nat.{ℕ, zero, suc, _+_, _-_, _*_, _≤_}
-use native.Mathlib.Nat.{add-zero, add-suc, mul-suc, mul-zero}
+use mathlib.Core.List.{List, [], _++_}
+use Prim.Native.Nat.{ℕ, _+_, _*_, _≤_, _-_}
 use native.Mathlib.Numerals.{add-one}
 use native.Mathlib.Omega.{arith}
 use lib.ListN.{length, length-append}
-use lib.Seq.{drop-length}
-use Rattle.words.specs.Table.{at}
-use Rattle.blocks.specs.Bytes.{le, put, zeros, flat}
+use Rattle.lists.specs.Lists.{at, put, zeros, flat}
+use Rattle.blocks.specs.Bytes.{le}
 use Rattle.blocks.specs.Records.{wordRecord}
 use Rattle.blocks.specs.Edition.{edition1}
 use Rattle.blocks.specs.Written.{seal, headed, block}
-use Rattle.blocks.proofs.Pieces.{flat-none, flat-more, flat-same, length-flat, length-zeros}
-use Rattle.blocks.proofs.Put.{put-none, put-put}
+use Rattle.lists.proofs.Pieces.{flat-none, flat-more, flat-same, length-flat, length-zeros, flat-flat}
+use Rattle.lists.proofs.Puts.{put-none, put-put, put-whole}
 use Rattle.blocks.proofs.Items.{word-items}
 use Rattle.writer.specs.Items.{Narrow, itemsFrom}
 
@@ -34,22 +32,6 @@ flat-end f g a j c bytes p q e = let z : j ≡ c = omega arith in subst (λ k. g
 
 -- ---- words as items
 
-flat-add : (m k : ℕ) (f : ℕ → List ℕ) → flat (m + k) f ≡ flat m f ++ flat k (λ x. f (m + x))
-flat-add m zero f =
-    ap (λ k. flat k f) (add-zero m) ∙ sym (ap (λ t. flat m f ++ t) (flat-none (λ x. f (m + x))) ∙ append-nil (flat m f))
-flat-add m (suc k) f =
-    ap (λ j. flat j f) (add-suc m k)
-    ∙ flat-more (m + k) f
-    ∙ ap (λ t. t ++ f (m + k)) (flat-add m k f)
-    ∙ append-assoc (flat m f) (flat k (λ x. f (m + x))) (f (m + k))
-    ∙ sym (ap (λ t. flat m f ++ t) (flat-more k (λ x. f (m + x))))
-
--- n pieces of k pieces each
-flat-flat : (k n : ℕ) (f : ℕ → List ℕ) → flat (k * n) f ≡ flat n (λ j. flat k (λ x. f (k * j + x)))
-flat-flat k zero f = rw mul-zero (flat-none f ∙ sym (flat-none (λ j. flat k (λ x. f (k * j + x)))))
-flat-flat k (suc n) f =
-    rw (mul-suc, flat-more n (λ j. flat k (λ x. f (k * j + x)))) (flat-add (k * n) k f ∙ ap (λ t. t ++ flat k (λ x. f (k * n + x))) (flat-flat k n f))
-
 pub words-as-items : (ws : List ℕ) (first c : ℕ) → Narrow ws → flat (3 * c) (itemsFrom ws (3 * first)) ≡ flat c (λ j. wordRecord ws (first + j))
 words-as-items ws first c narrow = flat-flat 3 c (itemsFrom ws (3 * first)) ∙ flat-same c _ _ (λ j h. word j)
   where
@@ -60,9 +42,6 @@ words-as-items ws first c narrow = flat-flat 3 c (itemsFrom ws (3 * first)) ∙ 
     word j = flat-same 3 _ _ (λ x h. ap (λ y. le 8 (at ws y)) (item j x)) ∙ sym (word-items ws (first + j) (narrow .width (first + j)))
 
 -- ---- header, records, zeros and check make a block
-
-put-whole : (f xs : List ℕ) → length xs ≡ length f → put f 0 xs ≡ xs
-put-whole f xs h = let z : 0 + length xs ≡ length f = omega arith in rw (z, drop-length, append-nil)
 
 pub block-put : (f f₁ f₂ r : List ℕ) (kind i c a : ℕ) (t : List ℕ) → length f ≡ 512 → length t ≤ 504 → a ≡ 8 + length t
     → f₁ ≡ put f 0 (headed edition1 kind i c []) → f₂ ≡ put f₁ 8 t → r ≡ seal (put f₂ a (zeros (512 - a))) → r ≡ block edition1 kind i c t

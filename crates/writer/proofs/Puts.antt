@@ -1,22 +1,22 @@
 -- A number's bytes, a rule and the check of a block, put down.
 use mathlib.Core.Path.{_≡_, sym, ap, _∙_}
 use mathlib.Core.List.{List, _∷_, _++_}
-use Prim.Native.Nat.{ℕ, suc, _+_, _-_, _*_, _/_, _%_, _<_, _≤_}
+use Prim.Native.Nat.{ℕ, suc, _+_, _*_, _/_, _%_, _<_, _≤_, _-_}
 use native.Mathlib.Nat.{add-zero}
 use native.Mathlib.Numerals.{add-one}
 use native.Mathlib.Omega.{arith}
 use lib.ListN.{length, take, drop, set, length-append, List·getD-append}
 use lib.Seq.{drop-cons, getD-append-add}
-use Rattle.words.specs.Table.{at}
+use Rattle.lists.specs.Lists.{at, part, put, zeros}
 use Rattle.checker.specs.Lent.{ruleAt}
-use Rattle.blocks.specs.Bytes.{le, part, put, zeros}
+use Rattle.blocks.specs.Bytes.{le}
 use Rattle.blocks.specs.Records.{ruleRecord}
 use Rattle.blocks.specs.Block.{sum}
 use Rattle.blocks.specs.Written.{seal}
-use Rattle.blocks.proofs.Parts.{at-part, length-part}
-use Rattle.blocks.proofs.Pieces.{at-zeros, length-zeros}
+use Rattle.lists.proofs.Parts.{at-part, length-part}
+use Rattle.lists.proofs.Pieces.{at-zeros, length-zeros}
 use Rattle.blocks.proofs.Numbers.{length-le}
-use Rattle.blocks.proofs.Put.{put-put}
+use Rattle.lists.proofs.Puts.{put-put}
 use Rattle.blocks.proofs.Items.{rule-item}
 
 -- ---- the bytes of a number, of which y is left after i of them

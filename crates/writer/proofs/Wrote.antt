@@ -1,13 +1,14 @@
 -- Blocks of one kind written one after the other, and the parts of a file written one behind the other.
 use mathlib.Core.Path.{_≡_, refl, ap, _∙_, subst}
 use mathlib.Core.List.{List, _++_}
-use Prim.Native.Nat.{ℕ, _+_, _-_, _*_, _≤_}
+use Prim.Native.Nat.{ℕ, _+_, _*_, _≤_, _-_}
 use native.Mathlib.Omega.{arith}
 use lib.ListN.{length, length-append}
 use lib.Seq.{drop-drop}
 use borrow.Rule.Slice.PartMut.{putMid}
 use Rattle.checker.specs.Lent.{wordCount, ruleCount}
-use Rattle.blocks.specs.Bytes.{le, put, flat}
+use Rattle.blocks.specs.Bytes.{le}
+use Rattle.lists.specs.Lists.{put, flat}
 use Rattle.blocks.specs.Records.{wordRecord, ruleRecord}
 use Rattle.blocks.specs.Edition.{Form, edition1}
 use Rattle.blocks.specs.Written.{held, block, blocksOf, wordBlocks, ruleBlocks, fileOf, encode}
@@ -15,7 +16,7 @@ use Rattle.blocks.proofs.Block.{length-block}
 use Rattle.blocks.proofs.Numbers.{length-le}
 use Rattle.blocks.proofs.Fair.{Fits, fair1}
 use Rattle.blocks.proofs.Sequence.{length-each, length-blocksOf}
-use Rattle.blocks.proofs.Put.{put-put}
+use Rattle.lists.proofs.Puts.{put-put}
 use Rattle.writer.specs.Items.{Narrow, itemsFrom, rulesFrom, wordsUpTo, rulesUpTo}
 use Rattle.writer.proofs.Filled.{flat-start, flat-turn, words-as-items}
 

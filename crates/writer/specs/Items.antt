@@ -3,7 +3,7 @@ use mathlib.Core.Bool.{Bool, _&&_}
 use mathlib.Core.List.{List}
 use Prim.Native.Nat.{ℕ, _+_, _*_, _/_, _<_}
 use lib.Dec.{leb}
-use Rattle.words.specs.Table.{at}
+use Rattle.lists.specs.Lists.{at}
 use Rattle.checker.specs.Lent.{stride, fields, wordCount, widthAt, ruleCount}
 use Rattle.blocks.specs.Bytes.{le}
 use Rattle.blocks.specs.Records.{wordRecord, ruleRecord}

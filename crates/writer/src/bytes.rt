@@ -1,9 +1,10 @@
 // Bytes put down: numbers, zeros, a block's header, and its end with the check.
 ghost use mathlib.Core.Path.{_≡_};
 ghost use mathlib.Core.List.{[]};
-ghost use Prim.Native.Nat.{_+_, _-_, _≤_};
+ghost use Prim.Native.Nat.{_+_, _≤_, _-_};
 ghost use lib.ListN.{length};
-ghost use Rattle.blocks.specs.Bytes.{le, put, zeros};
+ghost use Rattle.blocks.specs.Bytes.{le};
+ghost use Rattle.lists.specs.Lists.{put, zeros};
 ghost use Rattle.blocks.specs.Edition.{edition1};
 ghost use Rattle.blocks.specs.Written.{seal, headed};
 

@@ -1,8 +1,8 @@
 -- `blocks::sum_of` meets its contract: up to here the sum is that of the numbers passed, modulo 65,536.
 use mathlib.Core.Path.{_≡_}
-use Prim.Native.Nat.{_-_, _%_, _≤_}
+use Prim.Native.Nat.{_%_, _≤_, _-_}
 use borrow.Author.Needs.{needs}
-use Rattle.blocks.specs.Bytes.{total}
+use Rattle.lists.specs.Lists.{total}
 use Rattle.blocks.specs.Block.{sixteen}
 use Rattle.blocks.proofs.Sum.{sum-start, sum-turn, sum-end}
 use Rattle.blocks.proofs.sum_of.Statement.{statement}

@@ -1,7 +1,7 @@
 -- `explain::explain_proper` meets its contract.
 use borrow.Author.Tests.{not-true, not-false}
 use borrow.Author.Needs.{needs}
-use Rattle.checker.proofs.Deciding.{decided, refuted}
+use Rattle.lists.proofs.Deciding.{decided, refuted}
 use Rattle.explain.proofs.Reading.{Read, is-kind, is-legal, open-refused, open-asks, open-judged}
 use Rattle.explain.proofs.Calling.{rule-refused}
 use Rattle.explain.proofs.explain_proper.Statement.{statement}

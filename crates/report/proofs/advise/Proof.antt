@@ -6,7 +6,7 @@ use lib.ListN.{length}
 use lib.Seq.{length-take-le}
 use denote.Ref.{now}
 use borrow.Author.Needs.{needs}
-use Rattle.blocks.specs.Bytes.{zeros}
+use Rattle.lists.specs.Lists.{zeros}
 use Rattle.report.specs.Promise.{Lent}
 use Rattle.report.proofs.Advising.{short-bytes, short-work, unread-lines, few, read-asked, told-lines}
 use Rattle.report.proofs.advise.Statement.{statement}

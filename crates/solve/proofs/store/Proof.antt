@@ -1,6 +1,6 @@
 -- `solve::store` meets its contract.
 use mathlib.Core.Path.{_≡_}
-use Prim.Native.Nat.{_-_, _≤_}
+use Prim.Native.Nat.{_≤_, _-_}
 use native.Mathlib.Omega.{arith}
 use Rattle.solve.specs.Promise.{Stored}
 use Rattle.solve.proofs.Storing.{stored-start, stored-turn}

@@ -1,7 +1,7 @@
 -- `tighten::sweep` meets its contract.
 use mathlib.Core.Path.{_≡_, _∙_}
 use borrow.Author.Tests.{not-true, not-false}
-use Prim.Native.Nat.{_-_, _≤_}
+use Prim.Native.Nat.{_≤_, _-_}
 use native.Mathlib.Omega.{arith}
 use Rattle.tighten.proofs.Sweeping.{Passing, passing-start, still-ready, next-listed, passing-none, passing-step, passing-end}
 use Rattle.tighten.proofs.sweep.Statement.{statement}

@@ -1,6 +1,6 @@
 -- `trail::commit` meets its contract.
 use mathlib.Core.Path.{_≡_}
-use Prim.Native.Nat.{_-_, _≤_}
+use Prim.Native.Nat.{_≤_, _-_}
 use native.Mathlib.Omega.{arith}
 use Rattle.trail.proofs.Keeping.{Passing, passing-start, passing-step, low-room, high-room}
 use Rattle.trail.proofs.commit.Statement.{statement}

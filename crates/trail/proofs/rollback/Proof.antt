@@ -1,6 +1,6 @@
 -- `trail::rollback` meets its contract.
 use mathlib.Core.Path.{_≡_}
-use Prim.Native.Nat.{_+_, _-_, _≤_}
+use Prim.Native.Nat.{_+_, _≤_, _-_}
 use native.Mathlib.Omega.{arith}
 use Rattle.trail.proofs.Undoing.{GoingBack, going-start, going-step, going-end}
 use Rattle.trail.proofs.rollback.Statement.{statement}

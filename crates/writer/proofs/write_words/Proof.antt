@@ -1,11 +1,11 @@
 -- `writer::write_words` meets its contract: the blocks passed are written.
 use mathlib.Core.Path.{_≡_, refl, _∙_}
-use Prim.Native.Nat.{_+_, _-_, _*_, _≤_}
+use Prim.Native.Nat.{_+_, _*_, _≤_, _-_}
 use native.Mathlib.Omega.{arith}
 use borrow.Author.Needs.{needs}
 use borrow.Rule.Slice.PartMut.{same-len-mid}
 use lib.ListN.{length}
-use Rattle.blocks.specs.Bytes.{put}
+use Rattle.lists.specs.Lists.{put}
 use Rattle.blocks.specs.Written.{blocksFor}
 use Rattle.writer.specs.Items.{wordsUpTo}
 use Rattle.writer.proofs.Wrote.{words-start, words-turn, words-end}

@@ -1,6 +1,6 @@
 -- `cause::list::give` meets its contract.
 use mathlib.Core.Path.{_≡_}
-use Prim.Native.Nat.{_-_, _≤_}
+use Prim.Native.Nat.{_≤_, _-_}
 use native.Mathlib.Omega.{arith}
 use Rattle.cause.specs.Listing.{Held}
 use Rattle.cause.proofs.Shifting.{held-start, held-turn}

@@ -1,6 +1,6 @@
 -- `cause::list::make_room` meets its contract.
 use mathlib.Core.Path.{_≡_}
-use Prim.Native.Nat.{_+_, _-_, _≤_}
+use Prim.Native.Nat.{_+_, _≤_, _-_}
 use native.Mathlib.Omega.{arith}
 use Rattle.cause.proofs.Shifting.{Rising, rising-start, rising-step, rising-end}
 use Rattle.cause.proofs.list.make_room.Statement.{statement}

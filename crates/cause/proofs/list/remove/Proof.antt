@@ -1,6 +1,6 @@
 -- `cause::list::remove` meets its contract.
 use mathlib.Core.Path.{_≡_}
-use Prim.Native.Nat.{_-_, _≤_}
+use Prim.Native.Nat.{_≤_, _-_}
 use native.Mathlib.Omega.{arith}
 use Rattle.cause.proofs.Shifting.{Sinking, sinking-start, sinking-step}
 use Rattle.cause.proofs.list.remove.Statement.{statement}

@@ -2,17 +2,17 @@
 use mathlib.Core.Path.{_≡_, subst}
 use mathlib.Core.Bool.{Bool, _&&_}
 use mathlib.Core.List.{List, [], _∷_}
-use Prim.Native.Nat.{ℕ, suc, _-_, _<_}
+use Prim.Native.Nat.{ℕ, suc, _<_, _-_}
 use native.Mathlib.Omega.{arith}
 use lib.Dec.{eqb, eqb→eq}
 use lib.ListN.{length, getD}
 use borrow.Author.Needs.{needs}
 use Rattle.rules.specs.Kinds.{kindOf}
 use Rattle.rules.specs.ProperProblem.{KindNumber}
-use Rattle.rules.proofs.FitTest.{both}
+use Rattle.lists.proofs.Bools.{both}
 use Rattle.checker.specs.Lent.{fields}
 use Rattle.checker.specs.Rows.{entry}
-use Rattle.checker.proofs.Entries.{every, entries}
+use Rattle.lists.proofs.Entries.{every, entries}
 use Rattle.checker.proofs.rows.row.Statement.{statement}
 use Rattle.checker.proofs.rows.row.Tie as tie
 

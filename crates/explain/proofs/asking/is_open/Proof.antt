@@ -7,7 +7,7 @@ use borrow.Author.Tests.{not-true, not-false}
 use Rattle.rules.specs.Kinds.{kindOf}
 use Rattle.rules.specs.Rows.{uses}
 use Rattle.explain.specs.Places.{placeOf}
-use Rattle.checker.specs.Tests.{fails}
+use Rattle.lists.specs.Tests.{fails}
 use Rattle.explain.proofs.PlaceNumbers.{bit-at}
 use Rattle.explain.proofs.Questions.{place-used, place-unused, not-used, not-open, top-decides}
 use Rattle.explain.proofs.asking.is_open.Statement.{statement}

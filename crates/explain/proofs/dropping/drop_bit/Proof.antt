@@ -1,7 +1,7 @@
 -- `explain::dropping::drop_bit` meets its contract.
 use borrow.Author.Needs.{needs}
 use Rattle.explain.proofs.PlaceNumbers.{bit-at}
-use Rattle.checker.proofs.Deciding.{decided, refuted}
+use Rattle.lists.proofs.Deciding.{decided, refuted}
 use Rattle.explain.proofs.Passing.{Looked, open-passed, has-room, wider-asks, bit-dropped, bit-kept}
 use Rattle.explain.proofs.dropping.drop_bit.Statement.{statement}
 use Rattle.explain.proofs.dropping.drop_bit.Tie as tie

@@ -2,8 +2,8 @@
 use mathlib.Core.Path.{sym, _∙_}
 use borrow.Author.Needs.{needs}
 use borrow.Author.Tests.{not-true, not-false}
-use Rattle.blocks.specs.Bytes.{Under}
-use Rattle.checker.proofs.Deciding.{decided, refuted}
+use Rattle.lists.specs.Lists.{Under}
+use Rattle.lists.proofs.Deciding.{decided, refuted}
 use Rattle.reader.proofs.Loading.{four-fit}
 use Rattle.reader.proofs.Parse.{Head, is-words, is-rules, is-end, no-edition, no-number, no-kind, no-words, no-rules, no-end}
 use Rattle.reader.proofs.block.body_of.Statement.{statement}

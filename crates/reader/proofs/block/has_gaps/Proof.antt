@@ -1,11 +1,11 @@
 -- `reader::block::has_gaps` meets its contract: the records passed have their gaps.
-use Prim.Native.Nat.{_+_, _-_, _*_, _≤_}
+use Prim.Native.Nat.{_+_, _*_, _≤_, _-_}
 use native.Mathlib.Omega.{arith}
 use borrow.Author.Needs.{needs}
 use borrow.Author.Tests.{not-true, not-false}
-use Rattle.checker.specs.Tests.{holds, fails}
+use Rattle.lists.specs.Tests.{holds, fails}
 use Rattle.reader.specs.Tests.{Gaps}
-use Rattle.checker.proofs.Deciding.{decided, refuted}
+use Rattle.lists.proofs.Deciding.{decided, refuted}
 use Rattle.reader.proofs.Gaps.{gaps-none, gaps-more, gaps-all, inside}
 use Rattle.reader.proofs.block.has_gaps.Statement.{statement}
 use Rattle.reader.proofs.block.has_gaps.Tie as tie

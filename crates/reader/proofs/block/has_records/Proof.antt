@@ -2,8 +2,8 @@
 use native.Mathlib.Omega.{arith}
 use borrow.Author.Needs.{needs}
 use borrow.Author.Tests.{not-true, not-false}
-use Rattle.checker.specs.Tests.{fails}
-use Rattle.checker.proofs.Deciding.{decided, refuted, decides-as}
+use Rattle.lists.specs.Tests.{fails}
+use Rattle.lists.proofs.Deciding.{decided, refuted, decides-as}
 use Rattle.reader.proofs.Gaps.{fewer}
 use Rattle.reader.proofs.block.has_records.Statement.{statement}
 use Rattle.reader.proofs.block.has_records.Tie as tie

@@ -1,9 +1,9 @@
 -- `reader::block::is_clear` meets its contract: the bytes passed are 0.
-use Prim.Native.Nat.{_-_, _≤_}
+use Prim.Native.Nat.{_≤_, _-_}
 use native.Mathlib.Omega.{arith}
 use borrow.Author.Needs.{needs}
 use Rattle.blocks.specs.Block.{Clear}
-use Rattle.checker.specs.Tests.{holds, fails}
+use Rattle.lists.specs.Tests.{holds, fails}
 use Rattle.reader.proofs.Gaps.{clear-none, clear-more, clear-all}
 use Rattle.reader.proofs.block.is_clear.Statement.{statement}
 use Rattle.reader.proofs.block.is_clear.Tie as tie

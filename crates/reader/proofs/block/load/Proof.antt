@@ -1,9 +1,10 @@
 -- `reader::block::load` meets its contract: the bytes passed, from the last, make the number.
 use mathlib.Core.Path.{_≡_}
-use Prim.Native.Nat.{_+_, _-_, _≤_}
+use Prim.Native.Nat.{_+_, _≤_, _-_}
 use native.Mathlib.Omega.{arith}
 use borrow.Author.Needs.{needs}
-use Rattle.blocks.specs.Bytes.{number, part, Under}
+use Rattle.blocks.specs.Bytes.{number}
+use Rattle.lists.specs.Lists.{part, Under}
 use Rattle.reader.proofs.Loading.{load-start, load-turn, load-fits, load-end}
 use Rattle.reader.proofs.block.load.Statement.{statement}
 use Rattle.reader.proofs.block.load.Tie as tie

@@ -1,9 +1,9 @@
 -- `reader::machine::scan_file` meets its contract: the machine stands where the blocks passed lead it.
 use mathlib.Core.Path.{subst}
-use Prim.Native.Nat.{_-_, _≤_}
+use Prim.Native.Nat.{_≤_, _-_}
 use native.Mathlib.Omega.{arith}
 use borrow.Author.Needs.{needs}
-use Rattle.blocks.specs.Bytes.{Under}
+use Rattle.lists.specs.Lists.{Under}
 use Rattle.blocks.specs.Edition.{edition1}
 use Rattle.blocks.specs.File.{Whole}
 use Rattle.reader.specs.Scans.{Stands, Turned}

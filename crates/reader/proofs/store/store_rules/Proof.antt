@@ -1,13 +1,12 @@
 -- `reader::store::store_rules` meets its contract: the bytes passed are stored.
 use mathlib.Core.Path.{_≡_, refl, ap}
-use Prim.Native.Nat.{_+_, _-_, _*_, _/_, _%_, _≤_}
+use Prim.Native.Nat.{_+_, _*_, _/_, _%_, _≤_, _-_}
 use borrow.Author.Needs.{needs}
 use lib.ListN.{length, take, length-set}
-use Rattle.words.specs.Table.{at}
-use Rattle.blocks.specs.Bytes.{put}
+use Rattle.lists.specs.Lists.{at, put}
 use Rattle.blocks.specs.Decode.{rulesIn}
 use Rattle.blocks.specs.Written.{blocksFor}
-use Rattle.blocks.proofs.Put.{put-start}
+use Rattle.lists.proofs.Puts.{put-start}
 use Rattle.reader.proofs.Stores.{rules-turn, rules-end}
 use Rattle.reader.proofs.store.store_rules.Statement.{statement}
 use Rattle.reader.proofs.store.store_rules.Tie as tie

@@ -1,13 +1,14 @@
 -- `reader::store::store_words` meets its contract: the numbers passed are stored.
 use mathlib.Core.Path.{_≡_, refl}
 use mathlib.Core.Path.{ap, _∙_}
-use Prim.Native.Nat.{_-_, _*_, _≤_}
+use Prim.Native.Nat.{_*_, _≤_, _-_}
 use borrow.Author.Needs.{needs}
 use lib.ListN.{length, take, length-set}
-use Rattle.blocks.specs.Bytes.{number, part, put}
+use Rattle.blocks.specs.Bytes.{number}
+use Rattle.lists.specs.Lists.{part, put}
 use Rattle.blocks.specs.Decode.{wordsIn}
 use Rattle.blocks.specs.Written.{blocksFor}
-use Rattle.blocks.proofs.Put.{put-start}
+use Rattle.lists.proofs.Puts.{put-start}
 use Rattle.reader.proofs.Stores.{words-turn, words-end}
 use Rattle.reader.proofs.store.store_words.Statement.{statement}
 use Rattle.reader.proofs.store.store_words.Tie as tie

@@ -1,11 +1,11 @@
 -- `report::line::put_binary` meets its contract: the digits passed are put.
 use mathlib.Core.Path.{_≡_, refl}
-use Prim.Native.Nat.{_+_, _-_, _≤_}
+use Prim.Native.Nat.{_+_, _≤_, _-_}
 use native.Mathlib.Omega.{arith}
 use borrow.Author.Needs.{needs}
 use lib.ListN.{length, take, length-set}
-use Rattle.lines.specs.Putting.{Appended}
-use Rattle.lines.proofs.Puts.{bytes-start}
+use Rattle.decimal.specs.Putting.{Appended}
+use Rattle.decimal.proofs.Puts.{bytes-start}
 use Rattle.report.specs.Text.{binary}
 use Rattle.report.proofs.Binary.{binary-turn, binary-end}
 use Rattle.report.proofs.line.put_binary.Statement.{statement}

@@ -1,13 +1,13 @@
 -- `report::line::put_entries` meets its contract: the entries passed are put, of at most five digits each.
 use mathlib.Core.Path.{_≡_, refl, _∙_}
-use Prim.Native.Nat.{_+_, _-_, _*_, _≤_}
+use Prim.Native.Nat.{_+_, _*_, _≤_, _-_}
 use native.Mathlib.Omega.{arith}
 use borrow.Author.Needs.{needs}
 use lib.ListN.{length, take, length-set}
-use Rattle.lines.specs.Text.{spaced}
-use Rattle.lines.specs.Putting.{Appended}
-use Rattle.lines.proofs.Decimals.{decimal-below}
-use Rattle.lines.proofs.Puts.{numbers-start}
+use Rattle.decimal.specs.Text.{spaced}
+use Rattle.decimal.specs.Putting.{Appended}
+use Rattle.decimal.proofs.Decimals.{decimal-below}
+use Rattle.decimal.proofs.Puts.{numbers-start}
 use Rattle.report.proofs.Puts.{entry-turn, entries-end}
 use Rattle.report.proofs.line.put_entries.Statement.{statement}
 use Rattle.report.proofs.line.put_entries.Tie as tie

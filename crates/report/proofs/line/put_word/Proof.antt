@@ -2,7 +2,7 @@
 use Prim.Native.Nat.{_+_, _≤_}
 use native.Mathlib.Omega.{arith}
 use borrow.Author.Needs.{needs}
-use Rattle.lines.proofs.Decimals.{decimal-below}
+use Rattle.decimal.proofs.Decimals.{decimal-below}
 use Rattle.report.proofs.Binary.{length-binary}
 use Rattle.report.proofs.Puts.{spaced-one, word-put}
 use Rattle.report.proofs.line.put_word.Statement.{statement}
@@ -36,11 +36,11 @@ put-all-requires c κs =
     let a = c .before .before .before .before in
     omega (arith, a .before .before .before .pre, number-end a, a .put .kept .0)
 
-slice-aggregate-put : tie.Need-slice-aggregate-put
-slice-aggregate-put c = search needs
+slice-aggregate-put-bytes : tie.Need-slice-aggregate-put-bytes
+slice-aggregate-put-bytes c = search needs
 
-put-requires-2 : tie.Need-put-requires-2
-put-requires-2 c κs =
+put-bytes-requires : tie.Need-put-bytes-requires
+put-bytes-requires c κs =
     let b = c .before .before .before .before in
     let a = b .before .before .before .before .before in
     omega (arith, a .before .before .before .pre, width-end b, a .put .kept .0, b .put-all .kept .0)
@@ -51,13 +51,13 @@ put-binary-requires c κs =
     let b = d .before .before .before .before .before in
     let a = b .before .before .before .before .before in
     let p = a .before .before .before .pre in
-    (p .1, omega (arith, width-end b, d .put2 .ensures .ends, a .put .kept .0, b .put-all .kept .0, d .put2 .kept .0))
+    (p .1, omega (arith, width-end b, d .put-bytes .ensures .ends, a .put .kept .0, b .put-all .kept .0, d .put-bytes .kept .0))
 
-slice-aggregate-put-2 : tie.Need-slice-aggregate-put-2
-slice-aggregate-put-2 c = search needs
+slice-aggregate-put-bytes-2 : tie.Need-slice-aggregate-put-bytes-2
+slice-aggregate-put-bytes-2 c = search needs
 
-put-requires-3 : tie.Need-put-requires-3
-put-requires-3 c κs =
+put-bytes-requires-2 : tie.Need-put-bytes-requires-2
+put-bytes-requires-2 c κs =
     let f = c .before .before .before .before in
     let d = f .before .before .before .before in
     let b = d .before .before .before .before .before in
@@ -66,7 +66,7 @@ put-requires-3 c κs =
     let p = s .pre in
     let n = length-binary (s .args .width) (s .args .value) in
     let q = a .put .kept .0 in
-    omega (arith, width-end b, d .put2 .ensures .ends, f .put-binary .ensures .ends, b .put-all .kept .0, d .put2 .kept .0, f .put-binary .kept .0)
+    omega (arith, width-end b, d .put-bytes .ensures .ends, f .put-binary .ensures .ends, b .put-all .kept .0, d .put-bytes .kept .0, f .put-binary .kept .0)
 
 same-length : tie.Need-same-length
 same-length c = search needs
@@ -81,8 +81,8 @@ returns c =
     let s = a .before .before .before in
     let p = s .pre in
     let n = length-binary (s .args .width) (s .args .value) in (
-      word-put _ _ _ (a .put .ensures) (b .put-all .ensures .0) (d .put2 .ensures) (f .put-binary .ensures) (g .put3 .ensures),
-      omega (arith, width-end b, d .put2 .ensures .ends, f .put-binary .ensures .ends, g .put3 .ensures .ends),
+      word-put _ _ _ (a .put .ensures) (b .put-all .ensures .0) (d .put-bytes .ensures) (f .put-binary .ensures) (g .put-bytes2 .ensures),
+      omega (arith, width-end b, d .put-bytes .ensures .ends, f .put-binary .ensures .ends, g .put-bytes2 .ensures .ends),
     )
 
 pub put-word-spec : {M : Type 1} → statement M
@@ -92,10 +92,10 @@ put-word-spec =
     put-requires
     slice-aggregate-put-all
     put-all-requires
-    slice-aggregate-put
-    put-requires-2
+    slice-aggregate-put-bytes
+    put-bytes-requires
     put-binary-requires
-    slice-aggregate-put-2
-    put-requires-3
+    slice-aggregate-put-bytes-2
+    put-bytes-requires-2
     same-length
     returns)

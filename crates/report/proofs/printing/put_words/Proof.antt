@@ -1,11 +1,11 @@
 -- `report::printing::put_words` meets its contract: the lines passed are put, of at most 71 bytes each.
 use mathlib.Core.Path.{_≡_, refl, _∙_}
-use Prim.Native.Nat.{_+_, _-_, _*_, _≤_}
+use Prim.Native.Nat.{_+_, _*_, _≤_, _-_}
 use native.Mathlib.Omega.{arith}
 use borrow.Author.Needs.{needs}
 use lib.ListN.{length}
-use Rattle.lines.specs.Putting.{Appended}
-use Rattle.blocks.specs.Bytes.{flat}
+use Rattle.decimal.specs.Putting.{Appended}
+use Rattle.lists.specs.Lists.{flat}
 use Rattle.report.proofs.Puts.{pieces-start, pieces-turn}
 use Rattle.report.proofs.Reports.{lentLine, words-end}
 use Rattle.report.proofs.printing.put_words.Statement.{statement}

@@ -1,10 +1,10 @@
 -- `searcher::guess::open_word` meets its contract.
 use mathlib.Core.Path.{_≡_, sym, _∙_}
 use mathlib.Core.List.{List}
-use Prim.Native.Nat.{ℕ, _+_, _-_, _≤_, _<_}
+use Prim.Native.Nat.{ℕ, _+_, _≤_, _<_, _-_}
 use native.Mathlib.Omega.{arith}
 use native.Mathlib.Decide.{ℕ-discrete}
-use Rattle.words.specs.Table.{at}
+use Rattle.lists.specs.Lists.{at}
 use Rattle.words.proofs.Falls.{none-open, open-none}
 use borrow.Author.Needs.{needs}
 use Rattle.searcher.proofs.guess.open_word.Statement.{statement}

@@ -1,6 +1,6 @@
 -- `tighten::buffer::clear` meets its contract.
 use native.Mathlib.Omega.{arith}
-use Prim.Native.Nat.{_-_, _≤_}
+use Prim.Native.Nat.{_≤_, _-_}
 use lib.ListN.{length, length-set}
 use Rattle.tighten.proofs.Buffers.{Clearing, clearing-start, clearing-turn, clearing-end}
 use Rattle.tighten.proofs.buffer.clear.Statement.{statement}

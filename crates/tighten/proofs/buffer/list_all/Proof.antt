@@ -1,7 +1,7 @@
 -- `tighten::buffer::list_all` meets its contract.
 use mathlib.Core.Path.{_≡_}
 use native.Mathlib.Omega.{arith}
-use Prim.Native.Nat.{_-_, _≤_}
+use Prim.Native.Nat.{_≤_, _-_}
 use Rattle.tighten.specs.Memory.{Numbered}
 use Rattle.tighten.proofs.Buffers.{numbered-start, numbered-turn}
 use Rattle.tighten.proofs.buffer.list_all.Statement.{statement}

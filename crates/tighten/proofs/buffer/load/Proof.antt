@@ -1,7 +1,7 @@
 -- `tighten::buffer::load` meets its contract.
 use native.Mathlib.Omega.{arith}
 use mathlib.Core.Path.{_≡_, refl}
-use Prim.Native.Nat.{_-_, _≤_}
+use Prim.Native.Nat.{_≤_, _-_}
 use lib.ListN.{length-set}
 use Rattle.tighten.specs.Memory.{Loaded}
 use Rattle.tighten.proofs.Buffers.{loaded-start, loaded-turn}

@@ -1,7 +1,7 @@
 -- `tighten::buffer::unload` meets its contract.
 use native.Mathlib.Omega.{arith}
 use mathlib.Core.Path.{_≡_, refl, ap, _∙_}
-use Prim.Native.Nat.{_-_, _≤_}
+use Prim.Native.Nat.{_≤_, _-_}
 use lib.ListN.{length, length-set}
 use Rattle.tighten.specs.Memory.{putBounds}
 use Rattle.tighten.proofs.Buffers.{put-length, put-turn}

@@ -1,10 +1,10 @@
 -- `writer::block::put_rules` meets its contract: the rules passed are put.
 use mathlib.Core.Path.{_≡_, refl}
-use Prim.Native.Nat.{_+_, _-_, _*_, _≤_}
+use Prim.Native.Nat.{_+_, _*_, _≤_, _-_}
 use native.Mathlib.Omega.{arith}
 use borrow.Author.Needs.{needs}
 use lib.ListN.{length}
-use Rattle.blocks.specs.Bytes.{put, flat}
+use Rattle.lists.specs.Lists.{put, flat}
 use Rattle.blocks.proofs.Fair.{fair1}
 use Rattle.writer.specs.Items.{rulesFrom}
 use Rattle.writer.proofs.Filled.{flat-start, flat-turn, flat-end}

@@ -2,9 +2,9 @@
 use Prim.Native.Nat.{_+_, _*_}
 use native.Mathlib.Omega.{arith}
 use borrow.Author.Needs.{needs}
-use Rattle.blocks.specs.Bytes.{flat}
+use Rattle.lists.specs.Lists.{flat}
 use Rattle.blocks.proofs.Fair.{fair1}
-use Rattle.blocks.proofs.Pieces.{length-flat}
+use Rattle.lists.proofs.Pieces.{length-flat}
 use Rattle.writer.specs.Items.{rulesFrom}
 use Rattle.writer.proofs.Filled.{block-put}
 use Rattle.writer.proofs.block.rules_block.Statement.{statement}

@@ -1,10 +1,10 @@
 -- `writer::bytes::put_bytes` meets its contract: the bytes passed are put.
 use mathlib.Core.Path.{_≡_, refl}
-use Prim.Native.Nat.{_-_, _≤_}
+use Prim.Native.Nat.{_≤_, _-_}
 use borrow.Author.Needs.{needs}
 use lib.ListN.{length, take, length-set}
-use Rattle.blocks.specs.Bytes.{put}
-use Rattle.blocks.proofs.Put.{put-start, put-turn, put-end}
+use Rattle.lists.specs.Lists.{put}
+use Rattle.lists.proofs.Puts.{put-start, put-turn, put-end}
 use Rattle.writer.proofs.bytes.put_bytes.Statement.{statement}
 use Rattle.writer.proofs.bytes.put_bytes.Tie as tie
 

@@ -1,12 +1,13 @@
 -- `writer::bytes::put_number` meets its contract: the bytes passed are put, and the rest of them is left in `y`.
 use mathlib.Core.Path.{_≡_, refl}
-use Prim.Native.Nat.{_-_, _≤_}
+use Prim.Native.Nat.{_≤_, _-_}
 use native.Mathlib.Omega.{arith}
 use borrow.Author.Needs.{needs}
 use lib.ListN.{length, take, drop, length-set}
-use Rattle.blocks.specs.Bytes.{le, put}
+use Rattle.blocks.specs.Bytes.{le}
+use Rattle.lists.specs.Lists.{put}
 use Rattle.blocks.proofs.Numbers.{length-le}
-use Rattle.blocks.proofs.Put.{put-start, put-turn, put-end}
+use Rattle.lists.proofs.Puts.{put-start, put-turn, put-end}
 use Rattle.writer.proofs.Puts.{le-start, le-low, le-high}
 use Rattle.writer.proofs.bytes.put_number.Statement.{statement}
 use Rattle.writer.proofs.bytes.put_number.Tie as tie

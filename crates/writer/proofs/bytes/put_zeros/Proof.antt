@@ -1,12 +1,12 @@
 -- `writer::bytes::put_zeros` meets its contract: the zeros passed are put.
 use mathlib.Core.Path.{_≡_, refl, sym}
-use Prim.Native.Nat.{_-_, _≤_}
+use Prim.Native.Nat.{_≤_, _-_}
 use native.Mathlib.Omega.{arith}
 use borrow.Author.Needs.{needs}
 use lib.ListN.{length, take, length-set}
-use Rattle.blocks.specs.Bytes.{put, zeros}
-use Rattle.blocks.proofs.Pieces.{at-zeros, length-zeros}
-use Rattle.blocks.proofs.Put.{put-start, put-turn, put-end}
+use Rattle.lists.specs.Lists.{put, zeros}
+use Rattle.lists.proofs.Pieces.{at-zeros, length-zeros}
+use Rattle.lists.proofs.Puts.{put-start, put-turn, put-end}
 use Rattle.writer.proofs.bytes.put_zeros.Statement.{statement}
 use Rattle.writer.proofs.bytes.put_zeros.Tie as tie
 

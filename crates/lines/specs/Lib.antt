@@ -1,5 +1,0 @@
-pub mod Text
-pub mod Digits
-pub mod Reading
-pub mod Putting
-pub mod Lists

@@ -1,0 +1,10 @@
+pub mod Bools
+pub mod Deciding
+pub mod Entries
+pub mod Every
+pub mod Parts
+pub mod Pieces
+pub mod Puts
+pub mod Series
+pub mod Sets
+pub mod Unders
