@@ -7,7 +7,7 @@ use native.Mathlib.Numerals.{add-one}
 use native.Mathlib.Omega.{arith}
 use lib.ListN.{length}
 use Rattle.lists.specs.Lists.{at, part, zeros, flat, Under}
-use Rattle.checker.specs.Lent.{widthAt, ruleAt}
+use Rattle.problem.specs.Lent.{widthAt, ruleAt}
 use Rattle.blocks.specs.Bytes.{le, number}
 use Rattle.blocks.specs.Records.{ruleBytes, wordRecord, ruleRecord}
 use Rattle.blocks.specs.Edition.{edition1}

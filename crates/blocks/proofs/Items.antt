@@ -7,7 +7,7 @@ use native.Mathlib.Omega.{arith}
 use lib.ListN.{length, drop, drop-of-length-le}
 use Rattle.lists.specs.Lists.{at, zeros, flat}
 use Rattle.rules.specs.Tight.{Rule}
-use Rattle.checker.specs.Lent.{widthAt, loAt, hiAt}
+use Rattle.problem.specs.Lent.{widthAt, loAt, hiAt}
 use Rattle.blocks.specs.Bytes.{le}
 use Rattle.blocks.specs.Records.{wordBytes, ruleBytes, wordRecord}
 use Rattle.blocks.proofs.Block.{eight}

@@ -6,11 +6,11 @@ use native.Mathlib.Decide.{decLt}
 use native.Mathlib.Omega.{arith}
 use lib.ListN.{List·getD-eq-default}
 use Rattle.checker.specs.declared.Checked.the-variants.{Ok}
-use Rattle.checker.specs.Lent.{wordCount, widthAt}
+use Rattle.problem.specs.Lent.{wordCount, widthAt}
 use Rattle.checker.specs.Refusal.{refusalWith}
 use Rattle.checker.specs.Promise.{Fine}
 use Rattle.lists.proofs.Series.{length-series}
-use Rattle.checker.proofs.Series.{width-at}
+use Rattle.problem.proofs.Lents.{width-at}
 use Rattle.checker.proofs.Right.{ok-fine}
 use Rattle.lists.specs.Lists.{Under}
 use Rattle.blocks.specs.Written.{Storable}

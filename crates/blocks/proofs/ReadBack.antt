@@ -5,7 +5,7 @@ use Prim.Native.Nat.{ℕ, _+_, _*_, _/_, _%_, _<_}
 use native.Mathlib.Omega.{arith}
 use lib.ListN.{length}
 use Rattle.lists.specs.Lists.{at, part, zeros, Under}
-use Rattle.checker.specs.Lent.{wordCount, ruleCount}
+use Rattle.problem.specs.Lent.{wordCount, ruleCount}
 use Rattle.blocks.specs.Bytes.{le, number}
 use Rattle.blocks.specs.Records.{wordBytes, ruleBytes, wordRecord, ruleRecord}
 use Rattle.blocks.specs.Edition.{edition1}

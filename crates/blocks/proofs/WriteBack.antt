@@ -7,7 +7,7 @@ use native.Mathlib.Decide.{decLt}
 use native.Mathlib.Omega.{arith}
 use lib.ListN.{length, List·getD-eq-default}
 use Rattle.lists.specs.Lists.{at, part}
-use Rattle.checker.specs.Lent.{wordCount, widthAt, ruleCount}
+use Rattle.problem.specs.Lent.{wordCount, widthAt, ruleCount}
 use Rattle.blocks.specs.Records.{wordRecord, ruleRecord}
 use Rattle.blocks.specs.Edition.{Form, edition1}
 use Rattle.blocks.specs.Block.{Clear}

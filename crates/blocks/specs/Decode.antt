@@ -2,7 +2,7 @@
 use mathlib.Core.List.{List}
 use Prim.Native.Nat.{ℕ, _+_, _*_, _/_, _%_}
 use Rattle.lists.specs.Lists.{at, series, part}
-use Rattle.checker.specs.Lent.{stride, fields}
+use Rattle.problem.specs.Lent.{stride, fields}
 use Rattle.blocks.specs.Bytes.{number}
 use Rattle.blocks.specs.Edition.{edition1}
 use Rattle.blocks.specs.Written.{wordBlocks}

@@ -4,7 +4,7 @@ use mathlib.Core.List.{List}
 use Prim.Native.Nat.{ℕ, _≤_}
 use lib.ListN.{length}
 use Rattle.checker.specs.declared.Checked.{Checked}
-use Rattle.checker.specs.Lent.{wordCount, ruleCount}
+use Rattle.problem.specs.Lent.{wordCount, ruleCount}
 use Rattle.checker.specs.Demands.{SIZE, number}
 use Rattle.blocks.specs.declared.Problem.{Problem}
 use Rattle.blocks.specs.declared.Reading.{Reading}

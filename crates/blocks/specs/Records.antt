@@ -2,7 +2,7 @@
 use mathlib.Core.List.{List, _∷_, _++_}
 use Prim.Native.Nat.{ℕ}
 use Rattle.rules.specs.Tight.{Rule}
-use Rattle.checker.specs.Lent.{widthAt, loAt, hiAt, ruleAt}
+use Rattle.problem.specs.Lent.{widthAt, loAt, hiAt, ruleAt}
 use Rattle.blocks.specs.Bytes.{le}
 use Rattle.lists.specs.Lists.{zeros}
 

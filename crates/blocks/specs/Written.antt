@@ -3,7 +3,7 @@ use mathlib.Core.Path.{_≡_}
 use mathlib.Core.List.{List, _∷_, _++_}
 use Prim.Native.Nat.{ℕ, _+_, _*_, _/_, _%_, _^_, _<_, min, _-_}
 use lib.ListN.{length, set}
-use Rattle.checker.specs.Lent.{wordCount, widthAt, ruleCount}
+use Rattle.problem.specs.Lent.{wordCount, widthAt, ruleCount}
 use Rattle.checker.specs.Demands.{Sized}
 use Rattle.blocks.specs.Bytes.{le}
 use Rattle.lists.specs.Lists.{zeros, flat, Under}

@@ -9,11 +9,11 @@ use Rattle.checker.proofs.Firsts.{refused-not-ok}
 use Rattle.lists.specs.Lists.{at, series}
 use Rattle.rules.proofs.Propers.{proper-inside}
 use Rattle.checker.specs.declared.Checked.the-variants.{Ok, Refused}
-use Rattle.checker.specs.Lent.{widthsOf, tableOf, ruleCount, ruleAt, rulesOf, wordCount}
-use Rattle.checker.specs.Refusal.{refusalWith, room}
+use Rattle.problem.specs.Lent.{widthsOf, tableOf, ruleCount, ruleAt, rulesOf, wordCount}
+use Rattle.checker.specs.Refusal.{refusalWith}
 use Rattle.checker.specs.Promise.{Fine}
 use Rattle.checker.proofs.Right.{ok-fine}
-use Rattle.checker.proofs.Rooms.{too-short, enough, has-room}
+use Rattle.checker.proofs.Rooms.{first-short, second-short, roomy, has-room}
 use Rattle.lists.proofs.Series.{length-series, series-at}
 use Rattle.tighten.specs.Memory.{tableIn, Numbered, Cleared}
 use Rattle.tighten.proofs.Calling.{all-chosen, all-listed}
@@ -29,56 +29,47 @@ use Rattle.cause.specs.declared.Caused.the-variants as answer
 use Rattle.cause.specs.declared.Trimmed.{Trimmed}
 use Rattle.cause.specs.Listing.{keptIn, Standing, Short, Held}
 use Rattle.cause.specs.Trials.{TrimsTo, Trimming, TrialsEnd, all-decided, one-gave-up}
-use Rattle.cause.specs.Promise.{workLength, refusalHere, Given, Named, Entered, Causing, refused, exists-at, gave-up-at, caused-by, NoneFirst}
+use Rattle.cause.specs.Promise.{causeWork, causeRefusal, Named, Entered, Causing, refused, exists-at, gave-up-at, caused-by, NoneFirst, CauseGiven}
 
 -- ---- what is refused
 
 module _ (limit : ℕ) (ws bs s l : List ℕ) where
-  pub short-work : length l < workLength → Causing limit ws bs s l (answer.Refused 1 0) s l
-  unfolding refusalHere
-  short-work h = refused (too-short workLength (length l) (room (ruleCount bs) (length s) (refusalWith limit ws bs)) h)
+  pub short-work : length l < causeWork → Causing limit ws bs s l (answer.Refused 1 0) s l
+  unfolding causeRefusal
+  short-work h = refused (first-short causeWork (length l) (ruleCount bs) (length s) (refusalWith limit ws bs) h)
 
-  pub short-list : workLength ≤ length l → length s < ruleCount bs → Causing limit ws bs s l (answer.Refused 1 0) s l
-  unfolding refusalHere
-  short-list g h =
-      refused
-      (enough workLength (length l) (room (ruleCount bs) (length s) (refusalWith limit ws bs)) g
-      ∙ too-short (ruleCount bs) (length s) (refusalWith limit ws bs) h)
+  pub short-list : causeWork ≤ length l → length s < ruleCount bs → Causing limit ws bs s l (answer.Refused 1 0) s l
+  unfolding causeRefusal
+  short-list g h = refused (second-short causeWork (length l) (ruleCount bs) (length s) (refusalWith limit ws bs) g h)
 
-  passed : workLength ≤ length l → ruleCount bs ≤ length s → refusalHere limit ws bs s l ≡ refusalWith limit ws bs
-  unfolding refusalHere
-  passed g h =
-      enough workLength (length l) (room (ruleCount bs) (length s) (refusalWith limit ws bs)) g ∙ enough (ruleCount bs) (length s) (refusalWith limit ws bs) h
-
-  pub problem-refused : {n p : ℕ} → workLength ≤ length l → ruleCount bs ≤ length s → refusalWith limit ws bs ≡ Refused n p
+  pub problem-refused : {n p : ℕ} → causeWork ≤ length l → ruleCount bs ≤ length s → refusalWith limit ws bs ≡ Refused n p
       → Causing limit ws bs s l (answer.Refused n p) s l
-  problem-refused g h e = refused (passed g h ∙ e)
+  unfolding causeRefusal
+  problem-refused g h e = refused (roomy causeWork (length l) (ruleCount bs) (length s) (refusalWith limit ws bs) g h ∙ e)
 
-  pub nothing-refused : workLength ≤ length l → ruleCount bs ≤ length s → refusalWith limit ws bs ≡ Ok → Given limit ws bs s l
-  nothing-refused g h e = record { passed = passed g h ∙ e }
+  pub nothing-refused : causeWork ≤ length l → ruleCount bs ≤ length s → refusalWith limit ws bs ≡ Ok → CauseGiven limit ws bs s l
+  unfolding causeRefusal
+  nothing-refused g h e = record { passed = roomy causeWork (length l) (ruleCount bs) (length s) (refusalWith limit ws bs) g h ∙ e }
 
 -- ---- what is not
 
-module _ {limit : ℕ} {ws bs s l : List ℕ} (given : Given limit ws bs s l) where
-  both : (workLength ≤ length l) × (room (ruleCount bs) (length s) (refusalWith limit ws bs) ≡ Ok)
-  unfolding refusalHere
-  both = has-room workLength (length l) (room (ruleCount bs) (length s) (refusalWith limit ws bs)) (given .passed)
+module _ {limit : ℕ} {ws bs s l : List ℕ} (given : CauseGiven limit ws bs s l) where
+  roomed : (causeWork ≤ length l) × (ruleCount bs ≤ length s) × (refusalWith limit ws bs ≡ Ok)
+  unfolding causeRefusal
+  roomed = has-room causeWork (length l) (ruleCount bs) (length s) (refusalWith limit ws bs) (given .passed)
 
-  rest : (ruleCount bs ≤ length s) × (refusalWith limit ws bs ≡ Ok)
-  rest = has-room (ruleCount bs) (length s) (refusalWith limit ws bs) (both .1)
-
-  pub work-room : workLength ≤ length l
-  work-room = both .0
+  pub work-room : causeWork ≤ length l
+  work-room = roomed .0
 
   pub list-room : ruleCount bs ≤ length s
-  list-room = rest .0
+  list-room = roomed .1
 
   pub fine : Fine limit ws bs
-  fine = ok-fine limit ws bs (rest .1)
+  fine = ok-fine limit ws bs (roomed .2)
 
   -- the same call over a memory of the same length
-  pub given-again : {z : List ℕ} → length z ≡ length l → Given limit ws bs s z
-  given-again {z} e = nothing-refused limit ws bs s z (omega (arith, e, work-room)) list-room (rest .1)
+  pub given-again : {z : List ℕ} → length z ≡ length l → CauseGiven limit ws bs s z
+  given-again {z} e = nothing-refused limit ws bs s z (omega (arith, e, work-room)) list-room (roomed .2)
 
   -- ---- the first search
 

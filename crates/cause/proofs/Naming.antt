@@ -10,13 +10,13 @@ use lib.Seq.{ext-getD, getD-take}
 use Rattle.lists.specs.Lists.{at}
 use Rattle.rules.specs.Tight.{rule, AllHold}
 use Rattle.rules.proofs.Propers.{proper-inside}
-use Rattle.checker.specs.Lent.{widthsOf, tableOf, rulesOf}
+use Rattle.problem.specs.Lent.{widthsOf, tableOf, rulesOf}
 use Rattle.search.specs.Settings.{Settings, Without}
 use Rattle.causes.specs.Cause.{CAUSE}
 use Rattle.causes.proofs.Without.{cause-without, cause-some}
 use Rattle.causes.proofs.Irreducible.{In, cause-irreducible}
 use Rattle.cause.specs.declared.Caused.the-variants as answer
-use Rattle.cause.specs.Promise.{Given, Named, Causing, caused-by}
+use Rattle.cause.specs.Promise.{Named, Causing, caused-by, CauseGiven}
 use Rattle.cause.proofs.Calling.{fine}
 
 -- the rules of the lent problem whose numbers are listed
@@ -52,7 +52,7 @@ module _ {limit : ℕ} {ws bs s l : List ℕ} {g k : ℕ} {s′ l′ : List ℕ}
   pub listed-some : 0 < k
   listed-some = go c
     where
-      none-left : k ≡ 0 → Given limit ws bs s l → ⊥
+      none-left : k ≡ 0 → CauseGiven limit ws bs s l → ⊥
       none-left z h = cause-some (proper-inside (fine h .problem .table)) (rw z at cause-listed)
 
       go : Causing limit ws bs s l (answer.Cause g k) s′ l′ → 0 < k

@@ -8,7 +8,7 @@ use lib.ListN.{length}
 use lib.Seq.{ext-getD}
 use Rattle.checker.proofs.Firsts.{refused-not-ok}
 use Rattle.lists.specs.Lists.{at}
-use Rattle.checker.specs.Lent.{widthsOf, tableOf, rulesOf}
+use Rattle.problem.specs.Lent.{widthsOf, tableOf, rulesOf}
 use Rattle.tighten.proofs.Once.{cleared-once}
 use Rattle.causes.specs.Cause.{Cause, EXISTS, CAUSE, GAVE-UP}
 use Rattle.causes.proofs.One.{one-cause}

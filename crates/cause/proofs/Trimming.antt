@@ -6,7 +6,7 @@ use Prim.Native.Nat.{ℕ, suc, _+_, _*_, _≤_}
 use native.Mathlib.Omega.{arith}
 use lib.ListN.{length}
 use Rattle.lists.specs.Lists.{series}
-use Rattle.checker.specs.Lent.{ruleCount}
+use Rattle.problem.specs.Lent.{ruleCount}
 use Rattle.search.proofs.Limit.{answer-found, answer-none, count-limit}
 use Rattle.causes.specs.Cause.{Cause, CAUSE, GAVE-UP, decided, spared, needed, unknown}
 use Rattle.cause.specs.declared.Trial.{Trial}

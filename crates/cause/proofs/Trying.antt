@@ -9,8 +9,8 @@ use native.Mathlib.Decide.{decLt}
 use lib.ListN.{length, take}
 use Rattle.lists.specs.Lists.{at, series}
 use Rattle.rules.specs.Tight.{rule}
-use Rattle.checker.specs.Lent.{ruleCount, ruleAt, rulesOf, wordCount}
-use Rattle.checker.proofs.Series.{rule-at}
+use Rattle.problem.specs.Lent.{ruleCount, ruleAt, rulesOf, wordCount}
+use Rattle.problem.proofs.Lents.{rule-at}
 use Rattle.tighten.specs.Memory.{tableIn, chosen}
 use Rattle.lists.proofs.Series.{series-same, series-add, series-take, series-map}
 use Rattle.searcher.specs.declared.Answer.{Answer}

@@ -4,7 +4,7 @@ use mathlib.Core.List.{List}
 use Prim.Native.Nat.{ℕ, _+_, _≤_, _<_}
 use lib.ListN.{length}
 use Rattle.lists.specs.Lists.{at, series}
-use Rattle.checker.specs.Lent.{ruleCount}
+use Rattle.problem.specs.Lent.{ruleCount}
 
 -- the k numbers that stand after n others
 unfoldable pub keptIn : List ℕ → ℕ → ℕ → List ℕ

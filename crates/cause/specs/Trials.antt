@@ -5,7 +5,7 @@ use mathlib.Core.List.{List, [], _∷_}
 use Prim.Native.Nat.{ℕ, suc, _+_, _≤_}
 use lib.ListN.{length}
 use Rattle.rules.specs.ProperProblem.{ProperProblem}
-use Rattle.checker.specs.Lent.{widthsOf, tableOf, ruleCount, rulesOf}
+use Rattle.problem.specs.Lent.{widthsOf, tableOf, ruleCount, rulesOf}
 use Rattle.checker.specs.Demands.{Sized, most-guesses}
 use Rattle.search.specs.Search.{Outcome, found, none, gave-up}
 use Rattle.searcher.specs.Starting.{memoryLength}

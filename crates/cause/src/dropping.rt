@@ -39,7 +39,7 @@ pub fn trim(work: &mut [u64], words: &[u64], rules: &[u8], limit: u64, first: u6
 {
     let mut sum = first;
     let mut kept = 0;
-    let mut n = rules.len() / checker::FIELDS;
+    let mut n = rules.len() / problem::FIELDS;
     while 0 < n {
         n -= 1;
         let t = attempt(work, words, rules, n, kept, limit);

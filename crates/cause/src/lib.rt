@@ -3,7 +3,7 @@ mod dropping;
 mod list;
 
 ghost use Prim.Native.Nat.{_<_};
-ghost use Rattle.cause.specs.Promise.{Given, Causing, NoneFirst};
+ghost use Rattle.cause.specs.Promise.{Causing, NoneFirst, CauseGiven};
 
 // The answer: settings exist, with the first search's count; a search gave up, with the sum; or the cause, with the sum and how many rules it names.
 // Or the number of the first refusal, and its place.
@@ -48,7 +48,7 @@ pub fn trials(
     ensures { λ r. ⌜ Causing limit (now (words .entry)) (now (rules .entry)) (now (list .entry)) (now (work .entry)) r (now (list .exit))
         (now (work .exit)) ⌝ }
 {
-    tighten::buffer::list_all(work, rules.len() / checker::FIELDS);
+    tighten::buffer::list_all(work, rules.len() / problem::FIELDS);
     let t = dropping::trim(work, words, rules, limit, first);
     if !t.decided {
         tighten::buffer::clear(work);
@@ -70,11 +70,11 @@ fn cause_proper(
     list: &mut [u16],
     work: &mut [u64],
 ) -> Caused
-    requires { ⌜ Given limit (now words) (now rules) (now list) (now work) ⌝ }
+    requires { ⌜ CauseGiven limit (now words) (now rules) (now list) (now work) ⌝ }
     ensures { λ r. ⌜ Causing limit (now (words .entry)) (now (rules .entry)) (now (list .entry)) (now (work .entry)) r (now (list .exit))
         (now (work .exit)) ⌝ }
 {
-    let c = rules.len() / checker::FIELDS;
+    let c = rules.len() / problem::FIELDS;
     tighten::buffer::list_all(work, c);
     match searcher::search_problem(work, words, rules, c, limit) {
         searcher::Answer::Found(count) => {
@@ -99,7 +99,7 @@ pub fn cause(words: &[u64], rules: &[u8], limit: u32, list: &mut [u16], work: &m
     if work.len() < WORK {
         return Caused::Refused(checker::SIZE, 0);
     }
-    if list.len() < rules.len() / checker::FIELDS {
+    if list.len() < rules.len() / problem::FIELDS {
         return Caused::Refused(checker::SIZE, 0);
     }
     let x = checker::check(words, rules, limit);

@@ -8,7 +8,7 @@ use borrow.Author.Tests.{le-leb, lt-leb}
 use Rattle.words.specs.Word.{bounded}
 use Rattle.checker.specs.declared.Checked.{Checked}
 use Rattle.checker.specs.declared.Checked.the-variants.{Ok, Refused}
-use Rattle.checker.specs.Lent.{wordCount, widthAt, loAt, hiAt, ruleCount, ruleAt}
+use Rattle.problem.specs.Lent.{wordCount, widthAt, loAt, hiAt, ruleCount, ruleAt}
 use Rattle.checker.specs.Demands.{Demand, most-guesses}
 use Rattle.checker.specs.Tests.{sized, isWidth, isKind, areFields, isFitting}
 use Rattle.checker.specs.Refusal.{asks, _then_, firstOf, wordRefusal, ruleRefusal, refusal, refusalWith}

@@ -11,7 +11,7 @@ use Rattle.rules.specs.Rows.{Fitting}
 use Rattle.rules.specs.Tight.{word}
 use Rattle.rules.specs.ProperProblem.{KindNumber, Fields}
 use Rattle.checker.specs.declared.Checked.the-variants.{Ok}
-use Rattle.checker.specs.Lent.{wordCount, widthAt, loAt, hiAt, ruleCount, ruleAt}
+use Rattle.problem.specs.Lent.{wordCount, widthAt, loAt, hiAt, ruleCount, ruleAt}
 use Rattle.checker.specs.Demands.{Demand, SIZE, WIDTH, TABLE, KIND, FIELD, FIT, LIMIT, number, place, phase, Before, Sized, Met, most-guesses}
 use Rattle.checker.specs.Tests.{isWidth, isKind, areFields, isFitting}
 use Rattle.checker.specs.Refusal.{asks, wordRefusal, ruleRefusal}

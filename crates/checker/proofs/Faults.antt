@@ -14,7 +14,7 @@ use Rattle.rules.specs.Rows.{uses, Fitting}
 use Rattle.rules.specs.Tight.{word}
 use Rattle.rules.specs.ProperProblem.{usesK, kinds, most-words, most-rules}
 use Rattle.checker.specs.declared.Checked.the-variants.{Refused}
-use Rattle.checker.specs.Lent.{stride, fields, wordCount, widthAt, loAt, hiAt, ruleCount, ruleAt}
+use Rattle.problem.specs.Lent.{stride, fields, wordCount, widthAt, loAt, hiAt, ruleCount, ruleAt}
 use Rattle.checker.specs.Demands.{Demand, SIZE, WIDTH, TABLE, KIND, FIELD, FIT, LIMIT, number, place, Met, most-guesses}
 use Rattle.checker.specs.Refusal.{refusalWith}
 use Rattle.checker.specs.Promise.{FirstUnmet, refused}

@@ -12,11 +12,11 @@ use Rattle.rules.specs.Kinds.{Place, kindOf}
 use Rattle.rules.specs.Rows.{Fitting}
 use Rattle.rules.specs.Tight.{Rule, word}
 use Rattle.rules.specs.ProperProblem.{KindNumber, Fields, ProperRule}
-use Rattle.checker.specs.Lent.{stride, wordCount, widthAt, loAt, hiAt, ruleCount, ruleAt, widthsOf, tableOf}
+use Rattle.problem.specs.Lent.{stride, wordCount, widthAt, loAt, hiAt, ruleCount, ruleAt, widthsOf, tableOf}
 use Rattle.checker.specs.Demands.{Demand, SIZE, WIDTH, TABLE, KIND, FIELD, FIT, LIMIT, Met}
 use Rattle.checker.specs.Promise.{Fine}
 use Rattle.lists.proofs.Series.{length-series}
-use Rattle.checker.proofs.Series.{width-at, lo-at, hi-at, past-last, rule-at}
+use Rattle.problem.proofs.Lents.{width-at, lo-at, hi-at, past-last, rule-at}
 
 module _ (ws : List ℕ) (whole : length ws % stride ≡ 0) where
   widths-placed : (ρ : Rule) → _≡_ {A = Place → ℕ} (λ p. at (widthsOf ws) (word ρ p)) (λ p. widthAt ws (word ρ p))

@@ -2,7 +2,6 @@ pub mod Firsts
 pub mod RowNumbers
 pub mod TestsMet
 pub mod Answers
-pub mod Series
 pub mod FineMet
 pub mod Orders
 pub mod Earlier

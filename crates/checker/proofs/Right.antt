@@ -9,7 +9,7 @@ use Rattle.words.specs.Word.{bounded}
 use Rattle.words.proofs.Single.{bounded-complete}
 use Rattle.checker.specs.declared.Checked.{Checked}
 use Rattle.checker.specs.declared.Checked.the-variants.{Ok, Refused}
-use Rattle.checker.specs.Lent.{wordCount, widthAt, loAt, hiAt, ruleCount, ruleAt}
+use Rattle.problem.specs.Lent.{wordCount, widthAt, loAt, hiAt, ruleCount, ruleAt}
 use Rattle.checker.specs.Demands.{Demand, SIZE, WIDTH, TABLE, KIND, FIELD, FIT, LIMIT, number, place, Sized, most-guesses}
 use Rattle.checker.specs.Tests.{sized, isWidth, isKind, areFields, isFitting}
 use Rattle.checker.specs.Refusal.{asks, _then_, firstOf, wordRefusal, ruleRefusal, refusal, refusalWith}

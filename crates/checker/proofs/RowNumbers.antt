@@ -1,4 +1,4 @@
--- What the code compares in place of sums of widths, and a row's numbers read back.
+-- What the code compares in place of sums of widths, and the class of a row read back.
 use mathlib.Core.Path.{_≡_, refl, sym, fun-ext}
 use mathlib.Core.Logic.{_≢_}
 use mathlib.Core.Bool.{Bool, true, false}
@@ -7,13 +7,15 @@ use Prim.Native.Nat.{ℕ, zero, suc, _+_, _<_, _≤_, _-_}
 use native.Mathlib.Omega.{arith}
 use lib.Dec.{eqb, leb}
 use borrow.Author.Tests.{leb-true, leb-false, eqb-true, eqb-false, le-leb, lt-leb, eq-eqb, ne-eqb}
-use Rattle.words.specs.Bits.{one}
-use Rattle.rules.specs.Kinds.{R, A, B, S, widthOf, Kind, kindOf}
+use Rattle.problem.specs.Reading.{ruleOf, widthsAt}
+use Rattle.problem.specs.declared.Fields.{Fields}
+use Rattle.rules.specs.Kinds.{R, A, B, S, kindOf}
+use Rattle.problem.specs.Places.{widthOf}
 use Rattle.rules.specs.Rows.{Class, equal-r-a, equal-r-a-b, chosen, part, joined, shifted, equal-a-b, class}
-use Rattle.rules.specs.Tight.{Rule, word}
-use Rattle.rules.specs.declared.Widths.{Widths}
-use Rattle.checker.specs.Lent.{widthAt}
-use Rattle.checker.specs.Rows.{classOf, classNumber, usesField, entry}
+use Rattle.rules.specs.Tight.{word}
+use Rattle.problem.specs.declared.Widths.{Widths}
+use Rattle.problem.specs.Lent.{widthAt}
+use Rattle.problem.specs.Rows.{classOf, classNumber, entry}
 use Rattle.checker.specs.Tests.{fitsAs, isFitting}
 
 pub part-test : (k r a : ℕ) → r ≤ a → leb k (a - r) ≡ leb (k + r) a
@@ -57,23 +59,13 @@ last-class (suc (suc (suc (suc zero)))) z a b c d e = absurd (d refl)
 last-class (suc (suc (suc (suc (suc zero))))) z a b c d e = absurd (e refl)
 last-class (suc (suc (suc (suc (suc (suc n)))))) z a b c d e = refl
 
-one-test : (b : Bool) → eqb (one b) 1 ≡ b
-one-test true = refl
-one-test false = refl
-
-pub entry-used : (κ : Kind) (c : ℕ) → 0 < c → eqb (entry κ c) 1 ≡ usesField κ c
-entry-used κ zero l = absurd (omega arith)
-entry-used κ (suc c) l = one-test (usesField κ (suc c))
-
 -- ---- the fit of a rule by its row's number and the widths of its words
 
-words-placed : (ws : List ℕ) (ρ : Rule) (w : Widths)
-    → w ≡ record { r = widthAt ws (ρ .r); a = widthAt ws (ρ .a); b = widthAt ws (ρ .b); s = widthAt ws (ρ .s) }
-    → widthOf w ≡ (λ p. widthAt ws (word ρ p))
-words-placed ws ρ w e = rw e (fun-ext (λ p. elim p [ R ↦ refl | A ↦ refl | B ↦ refl | S ↦ refl ]))
+words-placed : (ws : List ℕ) (x : Fields) → widthOf (widthsAt ws x) ≡ (λ p. widthAt ws (word (ruleOf x) p))
+unfolding widthsAt
+words-placed ws x = fun-ext (λ p. elim p [ R ↦ refl | A ↦ refl | B ↦ refl | S ↦ refl ])
 
-pub fitting : (ws : List ℕ) (ρ : Rule) (κ x k : ℕ) (w : Widths) → κ ≡ ρ .kind → x ≡ entry (kindOf κ) 0 → k ≡ ρ .k
-    → w ≡ record { r = widthAt ws (ρ .r); a = widthAt ws (ρ .a); b = widthAt ws (ρ .b); s = widthAt ws (ρ .s) }
-    → fitsAs (classOf x) (widthOf w) k ≡ isFitting ws ρ
+pub fitting : (ws : List ℕ) (x : Fields) (c : ℕ) (w : Widths) → c ≡ entry (kindOf (x .kind)) 0 → w ≡ widthsAt ws x
+    → fitsAs (classOf c) (widthOf w) (x .k) ≡ isFitting ws (ruleOf x)
 unfolding isFitting
-fitting ws ρ κ x k w eκ ex ek ew = rw (words-placed ws ρ w ew, ex, ek, eκ, class-of (class (kindOf (ρ .kind))))
+fitting ws x c w ec ew = rw (ew, words-placed ws x, ec, class-of (class (kindOf (x .kind))))

@@ -12,7 +12,7 @@ use Rattle.rules.specs.Tight.{Rule, word}
 use Rattle.rules.specs.ProperProblem.{usesK, kinds, KindNumber, Fields, most-words}
 use Rattle.lists.proofs.Bools.{both}
 use Rattle.rules.proofs.FitTest.{pair}
-use Rattle.checker.specs.Lent.{stride, fields, wordCount, widthAt}
+use Rattle.problem.specs.Lent.{stride, fields, wordCount, widthAt}
 use Rattle.checker.specs.Demands.{Sized}
 use Rattle.checker.specs.Tests.{sized, oneTo, isWidth, isKind, isField, areFields, fitsAs, isFitting}
 

@@ -9,7 +9,7 @@ use Rattle.rules.specs.Kinds.{kindOf}
 use Rattle.rules.specs.Rows.{Fitting}
 use Rattle.rules.specs.Tight.{word}
 use Rattle.rules.specs.ProperProblem.{KindNumber, Fields, most-words, most-rules}
-use Rattle.checker.specs.Lent.{stride, fields, wordCount, widthAt, loAt, hiAt, ruleCount, ruleAt}
+use Rattle.problem.specs.Lent.{stride, fields, wordCount, widthAt, loAt, hiAt, ruleCount, ruleAt}
 
 pub data Demand : Type 0 where
   SIZE : Demand

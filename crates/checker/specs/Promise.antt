@@ -5,7 +5,7 @@ use Prim.Native.Nat.{ℕ, _≤_}
 use Rattle.rules.specs.ProperProblem.{ProperProblem}
 use Rattle.checker.specs.declared.Checked.{Checked}
 use Rattle.checker.specs.declared.Checked.the-variants.{Ok, Refused}
-use Rattle.checker.specs.Lent.{widthsOf, tableOf, rulesOf}
+use Rattle.problem.specs.Lent.{widthsOf, tableOf, rulesOf}
 use Rattle.checker.specs.Demands.{Demand, number, place, Before, Sized, Met, most-guesses}
 
 module _ (limit : ℕ) (ws bs : List ℕ) where
@@ -23,3 +23,9 @@ module _ (limit : ℕ) (ws bs : List ℕ) where
   pub data Right : Checked → Type 0 where
     ok : Fine → Right Ok
     refused : {n p : ℕ} (d : Demand) → number d ≡ n → place d ≡ p → FirstUnmet d → Right (Refused n p)
+
+-- a proper problem, and as much lent as is needed
+pub record Taken (needed lent : ℕ) (ws bs : List ℕ) : Type 0 where
+  pub sized : Sized ws bs
+  pub problem : ProperProblem (widthsOf ws) (tableOf ws) (rulesOf bs)
+  pub room : needed ≤ lent

@@ -6,7 +6,7 @@ use lib.Dec.{leb}
 use Rattle.words.specs.Word.{bounded}
 use Rattle.checker.specs.declared.Checked.{Checked}
 use Rattle.checker.specs.declared.Checked.the-variants.{Ok, Refused}
-use Rattle.checker.specs.Lent.{wordCount, widthAt, loAt, hiAt, ruleCount, ruleAt}
+use Rattle.problem.specs.Lent.{wordCount, widthAt, loAt, hiAt, ruleCount, ruleAt}
 use Rattle.checker.specs.Demands.{Demand, SIZE, WIDTH, TABLE, KIND, FIELD, FIT, LIMIT, number, place, most-guesses}
 use Rattle.checker.specs.Tests.{sized, isWidth, isKind, areFields, isFitting}
 
@@ -42,6 +42,6 @@ refusal ws bs = asks SIZE (sized ws bs) then firstOf (wordCount ws) (wordRefusal
 unfoldable pub refusalWith : ℕ → List ℕ → List ℕ → Checked
 refusalWith limit ws bs = refusal ws bs then asks LIMIT (leb limit most-guesses)
 
--- SIZE where fewer were lent than are needed, then the rest
-unfoldable pub room : ℕ → ℕ → Checked → Checked
-room needed lent y = asks SIZE (leb needed lent) then y
+-- SIZE where fewer than a are lent, being x, or fewer than b, being y; then the rest. A call that lends one buffer only asks for 0 of 0
+unfoldable pub withRoom : ℕ → ℕ → ℕ → ℕ → Checked → Checked
+withRoom a x b y z = asks SIZE (leb a x) then asks SIZE (leb b y) then z

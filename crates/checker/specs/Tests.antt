@@ -8,7 +8,7 @@ use Rattle.rules.specs.Kinds.{Place, R, A, B, S, kindOf}
 use Rattle.rules.specs.Rows.{Class, equal-r-a, equal-r-a-b, chosen, part, joined, shifted, equal-a-b, class, uses}
 use Rattle.rules.specs.Tight.{Rule, word}
 use Rattle.rules.specs.ProperProblem.{kinds, usesK, most-words, most-rules}
-use Rattle.checker.specs.Lent.{stride, fields, wordCount, widthAt, ruleCount}
+use Rattle.problem.specs.Lent.{stride, fields, wordCount, widthAt, ruleCount}
 
 unfoldable pub sized : List ℕ → List ℕ → Bool
 sized ws bs = eqb (length ws % stride) 0 && (eqb (length bs % fields) 0 && (leb (wordCount ws) most-words && leb (ruleCount bs) most-rules))

@@ -1,24 +1,16 @@
 // A problem checked: its sizes, its words, its rules and its limit, in that order. The first refusal and its place come back; nothing lent is written.
+mod fit;
+mod rule;
+mod word;
+
+use problem::FIELDS;
+use problem::GUESSES;
+use problem::RULES;
+use problem::STRIDE;
+use problem::WORDS;
 ghost use mathlib.Core.Path.{_≡_};
 ghost use Rattle.checker.specs.Tests.{sized, oneTo};
 ghost use Rattle.checker.specs.Refusal.{refusal, refusalWith};
-
-pub mod rows;
-pub mod rule;
-mod word;
-
-// The stride, numbers a word: width, lo, hi.
-pub const STRIDE: usize = 3;
-
-// Bytes a rule: kind, r, a, b, s, k.
-pub const FIELDS: usize = 6;
-
-// The most words, rules and guesses.
-pub const WORDS: usize = 32;
-
-pub const RULES: usize = 252;
-
-pub const GUESSES: u32 = 1000000;
 
 // The numbers of the refusals.
 pub const SIZE: u64 = 1;

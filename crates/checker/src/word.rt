@@ -1,11 +1,11 @@
 // The refusals of words: 4 and 5.
 use crate::Checked;
-use crate::STRIDE;
 use crate::TABLE;
 use crate::WIDTH;
+use problem::STRIDE;
 ghost use mathlib.Core.Path.{_≡_};
 ghost use Prim.Native.Nat.{_<_};
-ghost use Rattle.checker.specs.Lent.{wordCount};
+ghost use Rattle.problem.specs.Lent.{wordCount};
 ghost use Rattle.checker.specs.Refusal.{firstOf, wordRefusal};
 
 // Refusals 4 and 5 of word i.

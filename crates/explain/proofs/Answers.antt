@@ -6,15 +6,17 @@ use Prim.Native.Nat.{ℕ, _<_}
 use native.Mathlib.Omega.{arith}
 use lib.Dec.{eqb}
 use borrow.Author.Tests.{eqb-true, eqb-false, eq-eqb, ne-eqb}
+use Rattle.rules.specs.ProperProblem.{KindNumber}
 use Rattle.words.specs.Bits.{bit}
 use Rattle.words.proofs.Order.{bit-lt}
 use Rattle.rules.specs.Kinds.{Place}
 use Rattle.rules.specs.Meaning.{Shape}
 use Rattle.rules.specs.Fits.{Span, Uses, Legal}
 use Rattle.lists.specs.Tests.{Decides, holds, fails}
-use Rattle.hull.specs.declared.Bounds.{Bounds}
+use Rattle.problem.specs.declared.Bounds.{Bounds}
 use Rattle.hull.specs.declared.Narrowed.{Narrowed}
-use Rattle.hull.specs.Narrowing.{loOf, hiOf, spanOf, Narrows}
+use Rattle.problem.specs.Places.{loOf, hiOf, spanOf}
+use Rattle.hull.specs.Narrowing.{Narrows}
 use Rattle.reasons.specs.Says.{Answer, CONFLICT, FORCED, FREE, Says, says-conflict, says-forced, says-free}
 use Rattle.reasons.proofs.One.{one-answer}
 use Rattle.explain.specs.declared.Said.{Said}
@@ -57,8 +59,8 @@ module _ {σ : Shape} {t : Span} {o : Narrowed} (n : Narrows σ t o) (e : o .fit
       says-free git kit (omega arith)
 
 -- the rule may be narrowed
-pub narrow-asked : {q : Question} {t : Bounds} → Asks q t → (0 < q .kind) × (q .kind < 15) × Legal (shapeIn q) (spanOf t)
-narrow-asked a = (omega (arith, a .kind .low), omega (arith, a .kind .high), a .legal)
+pub narrow-asked : {q : Question} {t : Bounds} → Asks q t → KindNumber (q .kind) × Legal (shapeIn q) (spanOf t)
+narrow-asked x = (x .kind, x .legal)
 
 -- what is read off a narrowing of the rule is what the rule says of the bit
 pub narrow-said : (q : Question) {t : Span} {o : Narrowed} → Narrows (shapeIn q) t o → Uses (shapeIn q) (placeIn q)

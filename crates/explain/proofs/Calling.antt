@@ -1,17 +1,16 @@
 -- The call's own steps: the answer for an open bit, and the refusals, as the promise says.
-use mathlib.Core.Path.{_≡_, refl, sym, ap, _∙_}
+use mathlib.Core.Path.{_≡_, refl, ap, _∙_}
 use mathlib.Core.List.{List, []}
 use Prim.Native.Nat.{ℕ, _≤_, _<_}
 use native.Mathlib.Omega.{arith}
 use lib.ListN.{length}
 use Rattle.lists.specs.Lists.{at}
 use Rattle.checker.specs.declared.Checked.the-variants.{Ok, Refused}
-use Rattle.checker.specs.Lent.{ruleCount}
+use Rattle.problem.specs.Lent.{ruleCount}
 use Rattle.checker.specs.Refusal.{refusal}
-use Rattle.checker.proofs.Right.{ok-fine, no-limit}
-use Rattle.checker.proofs.Rooms.{too-short, enough, has-room}
-use Rattle.hull.specs.declared.Bounds.{Bounds}
-use Rattle.hull.specs.Narrowing.{spanOf}
+use Rattle.checker.proofs.Rooms.{first-short, roomy}
+use Rattle.problem.specs.declared.Bounds.{Bounds}
+use Rattle.problem.specs.Places.{spanOf}
 use Rattle.reasons.specs.Says.{CONFLICT, FORCED, FREE, Says}
 use Rattle.reasons.specs.Reason.{no-reason, with-reason}
 use Rattle.explain.specs.declared.Question.{Question}
@@ -21,7 +20,7 @@ use Rattle.explain.specs.declared.Explained.{Explained}
 use Rattle.explain.specs.declared.Explained.the-variants as explained
 use Rattle.explain.specs.Asking.{shapeIn, placeIn, answer}
 use Rattle.explain.specs.Dropping.{Reasoned}
-use Rattle.explain.specs.Promise.{entries, refusalHere, Explanation, Taken, Judged, not-asked, Explaining, refused, judged}
+use Rattle.explain.specs.Promise.{entries, explainRefusal, Explanation, Judged, not-asked, Explaining, refused, judged}
 use Rattle.explain.proofs.Answers.{conflict-free, forced-free}
 
 -- ---- the answer for an open bit
@@ -55,28 +54,17 @@ rule-refused n p j h = not-asked (λ a. omega (arith, a .there))
 
 -- ---- the refusals before the question
 
-module _ (ws bs l : List ℕ) (h : entries ≤ length l) where
-  pub problem-taken : refusal ws bs ≡ Ok → Taken ws bs l
-  problem-taken e =
-      let fine = ok-fine 0 ws bs (sym (no-limit ws bs) ∙ e) in
-      record { sized = fine .sized; problem = fine .problem; room = h }
-
 module _ (ws bs l : List ℕ) (n p j : ℕ) where
   pub short-refused : length l < entries → Explaining ws bs n p j l (explained.Refused 1 0) l
-  unfolding refusalHere
-  short-refused h = refused (too-short entries (length l) (refusal ws bs) h)
+  unfolding explainRefusal
+  short-refused h = refused (first-short entries (length l) 0 0 (refusal ws bs) h)
 
   pub problem-refused : {number place : ℕ} → entries ≤ length l → refusal ws bs ≡ Refused number place
       → Explaining ws bs n p j l (explained.Refused number place) l
-  unfolding refusalHere
-  problem-refused h e = refused (enough entries (length l) (refusal ws bs) h ∙ e)
+  unfolding explainRefusal
+  problem-refused h e = refused (roomy entries (length l) 0 0 (refusal ws bs) h (omega arith) ∙ e)
 
   pub problem-judged : {r : Explained} {m : List ℕ} → entries ≤ length l → refusal ws bs ≡ Ok → Judged ws bs n p j l r m
       → Explaining ws bs n p j l r m
-  unfolding refusalHere
-  problem-judged h e d = judged (enough entries (length l) (refusal ws bs) h ∙ e) d
-
--- a problem that is not refused is proper
-pub here-taken : (ws bs l : List ℕ) → refusalHere ws bs l ≡ Ok → Taken ws bs l
-unfolding refusalHere
-here-taken ws bs l e = let (h, ok) = has-room entries (length l) (refusal ws bs) e in problem-taken ws bs l h ok
+  unfolding explainRefusal
+  problem-judged h e d = judged (roomy entries (length l) 0 0 (refusal ws bs) h (omega arith) ∙ e) d

@@ -6,8 +6,8 @@ use native.Mathlib.Omega.{arith}
 use Rattle.words.specs.Bits.{bit}
 use Rattle.words.proofs.Order.{bit-lt}
 use Rattle.rules.specs.Kinds.{Place, R, A, B, S}
-use Rattle.hull.specs.declared.Bounds.{Bounds}
-use Rattle.hull.specs.Narrowing.{loOf, hiOf, spanOf}
+use Rattle.problem.specs.declared.Bounds.{Bounds}
+use Rattle.problem.specs.Places.{loOf, hiOf, spanOf}
 use Rattle.reasons.specs.Reason.{cleared, filled, placed, opened}
 use Rattle.explain.specs.Places.{placeOf}
 

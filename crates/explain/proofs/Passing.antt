@@ -11,8 +11,8 @@ use Rattle.words.specs.Bits.{bit}
 use Rattle.rules.specs.Kinds.{Place}
 use Rattle.rules.specs.Meaning.{Shape}
 use Rattle.rules.specs.Fits.{Span, Legal}
-use Rattle.hull.specs.declared.Bounds.{Bounds}
-use Rattle.hull.specs.Narrowing.{loOf, hiOf, spanOf}
+use Rattle.problem.specs.declared.Bounds.{Bounds}
+use Rattle.problem.specs.Places.{loOf, hiOf, spanOf}
 use Rattle.reasons.specs.Says.{Answer, Says}
 use Rattle.reasons.specs.Reason.{Spot, spot, entry, opened, Reason, all-seen, dropped, kept, fixedBit}
 use Rattle.reasons.proofs.Opened.{opened-legal}

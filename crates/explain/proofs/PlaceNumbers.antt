@@ -6,7 +6,7 @@ use native.Mathlib.Omega.{arith}
 use Rattle.words.specs.Bits.{bit}
 use Rattle.rules.specs.Kinds.{S, Kind}
 use Rattle.rules.specs.Rows.{uses}
-use Rattle.checker.specs.Rows.{usesField}
+use Rattle.problem.specs.Rows.{usesField}
 use Rattle.reasons.specs.Reason.{placeNo}
 use Rattle.explain.specs.Places.{last, placeOf}
 

@@ -12,7 +12,7 @@ use Rattle.rules.specs.Kinds.{Kind}
 use Rattle.rules.specs.Rows.{uses}
 use Rattle.rules.specs.Meaning.{Shape}
 use Rattle.rules.specs.Fits.{Span, Uses}
-use Rattle.checker.specs.Rows.{usesField}
+use Rattle.problem.specs.Rows.{usesField}
 use Rattle.explain.specs.Places.{last, placeOf}
 use Rattle.lists.specs.Tests.{Decides, holds, fails}
 use Rattle.explain.specs.Asking.{OpenBit}

@@ -6,13 +6,14 @@ use native.Mathlib.Omega.{arith}
 use lib.Dec.{T}
 use lib.ListN.{length, take, drop}
 use lib.Seq.{take-at, drop-at}
+use Rattle.checker.specs.Promise.{Taken}
 use Rattle.rules.specs.Kinds.{Place}
 use Rattle.rules.specs.Meaning.{Shape}
 use Rattle.rules.specs.Fits.{Span, Legal}
 use Rattle.rules.specs.Tight.{rule, shape, span}
 use Rattle.rules.proofs.ProperRules.{rule-legal}
-use Rattle.checker.specs.declared.Checked.the-variants.{Refused}
-use Rattle.checker.specs.Lent.{widthsOf, tableOf, rulesOf}
+use Rattle.checker.specs.declared.Checked.the-variants.{Refused, Ok}
+use Rattle.problem.specs.Lent.{widthsOf, tableOf, rulesOf}
 use Rattle.lists.proofs.Series.{length-series}
 use Rattle.reasons.specs.Says.{Answer, CONFLICT, FORCED, FREE, Says}
 use Rattle.reasons.specs.Reason.{entry, opened, fixedOf, Explains, no-reason, with-reason}
@@ -23,8 +24,8 @@ use Rattle.explain.specs.declared.Explained.{Explained}
 use Rattle.explain.specs.declared.Explained.the-variants as explained
 use Rattle.explain.specs.Places.{placeOf}
 use Rattle.explain.specs.Dropping.{written}
-use Rattle.explain.specs.Promise.{entries, given, Explanation, Taken, Tells, tells-conflict, tells-forced, Judged, not-asked, answered, Explaining, refused, judged}
-use Rattle.explain.proofs.Calling.{here-taken}
+use Rattle.explain.specs.Promise.{entries, given, Explanation, Tells, tells-conflict, tells-forced, Judged, not-asked, answered, Explaining, refused, judged, explainRefusal}
+use Rattle.checker.proofs.Rooms.{taken}
 
 -- what tells a reason of c entries is given for no other answer, and with no other count
 told-given : {r : Explained} {x : Answer} {c : ℕ} (a : Answer) (k : ℕ) → Tells r x c → r ≡ given a k → (a ≡ x) × (k ≡ c)
@@ -38,6 +39,10 @@ told-given FREE k tells-forced e = let z : _≡_ {A = ℕ} 0 1 = cc in absurd (o
 -- a refusal tells none
 refused-tells : {number place : ℕ} {x : Answer} {c : ℕ} → Tells (explained.Refused number place) x c → ⊥
 refused-tells h = elim h [ ]
+
+not-refused : (ws bs l : List ℕ) → explainRefusal ws bs l ≡ Ok → Taken entries (length l) ws bs
+unfolding explainRefusal
+not-refused ws bs l e = taken entries (length l) ws bs e
 
 -- the first c numbers of the list are the reason, and the others are as they were
 pub record Listing (σ : Shape) (t : Span) (p : Place) (j : ℕ) (x : Answer) (c : ℕ) (l m : List ℕ) : Type 0 where
@@ -53,7 +58,7 @@ module _ {ws bs : List ℕ} {n p j : ℕ} {l : List ℕ} where
   listing (judged e (not-asked a)) h = absurd (refused-tells h)
   listing {m} {c = c} (judged e (answered a g)) h =
       let (ex, ec) = told-given (g .answer) (length (g .out)) h (g .told) in
-      let taken : Taken ws bs l = here-taken ws bs l e in
+      let taken : Taken entries (length l) ws bs = not-refused ws bs l e in
       let first : take c m ≡ g .out = rw (g .list) (take-at (g .out) _ c ec) in
       record {
         legal = rule-legal (taken .problem .table) (taken .problem .each n (rw length-series (a .there)));

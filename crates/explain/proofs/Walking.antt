@@ -7,11 +7,11 @@ use native.Mathlib.Nat.{zero-add}
 use native.Mathlib.Omega.{arith}
 use lib.ListN.{length, length-append}
 use lib.Seq.{length-sets, sets-eq}
-use Rattle.rules.specs.Kinds.{Place, widthOf}
+use Rattle.rules.specs.Kinds.{Place}
+use Rattle.problem.specs.Places.{widthOf, spanOf}
 use Rattle.rules.specs.Rows.{uses}
 use Rattle.rules.specs.Fits.{Span}
-use Rattle.hull.specs.declared.Bounds.{Bounds}
-use Rattle.hull.specs.Narrowing.{spanOf}
+use Rattle.problem.specs.declared.Bounds.{Bounds}
 use Rattle.reasons.specs.Reason.{Spot, fixedFrom, fixedAt, fixedOf}
 use Rattle.reasons.proofs.Rising.{fixed-length}
 use Rattle.explain.specs.declared.Question.{Question}

@@ -8,9 +8,9 @@ use Rattle.rules.specs.Kinds.{Place}
 use Rattle.rules.specs.Meaning.{Shape}
 use Rattle.rules.specs.Fits.{Span, Uses, Legal}
 use Rattle.rules.specs.ProperProblem.{KindNumber}
-use Rattle.hull.specs.declared.Bounds.{Bounds}
+use Rattle.problem.specs.declared.Bounds.{Bounds}
 use Rattle.hull.specs.declared.Narrowed.{Narrowed}
-use Rattle.hull.specs.Narrowing.{loOf, hiOf, shapeOf, spanOf}
+use Rattle.problem.specs.Places.{loOf, hiOf, shapeOf, spanOf}
 use Rattle.reasons.specs.Says.{Answer, CONFLICT, FORCED, FREE}
 use Rattle.explain.specs.declared.Question.{Question}
 use Rattle.explain.specs.declared.Said.{Said}

@@ -5,11 +5,11 @@ use mathlib.Core.List.{List, [], _∷_, _++_}
 use Prim.Native.Nat.{ℕ, _+_, _≤_, _<_}
 use lib.ListN.{length, drop}
 use lib.Seq.{sets}
-use Rattle.rules.specs.Kinds.{Place, widthOf}
+use Rattle.rules.specs.Kinds.{Place}
+use Rattle.problem.specs.Places.{widthOf, spanOf}
 use Rattle.rules.specs.Meaning.{Shape}
 use Rattle.rules.specs.Fits.{Span, Legal}
-use Rattle.hull.specs.declared.Bounds.{Bounds}
-use Rattle.hull.specs.Narrowing.{spanOf}
+use Rattle.problem.specs.declared.Bounds.{Bounds}
 use Rattle.reasons.specs.Says.{Answer}
 use Rattle.reasons.specs.Reason.{Spot, spot, Reason, fixedBit, fixedAt, fixedOf}
 use Rattle.explain.specs.declared.Question.{Question}

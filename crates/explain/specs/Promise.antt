@@ -7,12 +7,10 @@ use Rattle.rules.specs.Kinds.{Place}
 use Rattle.rules.specs.Meaning.{Shape}
 use Rattle.rules.specs.Fits.{Span}
 use Rattle.rules.specs.Tight.{rule, shape, span}
-use Rattle.rules.specs.ProperProblem.{ProperProblem}
 use Rattle.checker.specs.declared.Checked.{Checked}
 use Rattle.checker.specs.declared.Checked.the-variants.{Ok, Refused}
-use Rattle.checker.specs.Lent.{widthsOf, tableOf, ruleCount, rulesOf}
-use Rattle.checker.specs.Demands.{Sized}
-use Rattle.checker.specs.Refusal.{refusal, room}
+use Rattle.problem.specs.Lent.{widthsOf, tableOf, ruleCount, rulesOf}
+use Rattle.checker.specs.Refusal.{refusal, withRoom}
 use Rattle.reasons.specs.Says.{Answer, CONFLICT, FORCED, FREE}
 use Rattle.reasons.specs.Reason.{Explains}
 use Rattle.explain.specs.declared.Explained.{Explained}
@@ -30,8 +28,8 @@ abbrev pub ASK : ℕ
 ASK = 10
 
 -- refusal 1 for a list that is too short, then the refusals of the problem
-unfoldable pub refusalHere : List ℕ → List ℕ → List ℕ → Checked
-refusalHere ws bs l = room entries (length l) (refusal ws bs)
+unfoldable pub explainRefusal : List ℕ → List ℕ → List ℕ → Checked
+explainRefusal ws bs l = withRoom entries (length l) 0 0 (refusal ws bs)
 
 -- what comes back for an answer whose reason has c entries
 abbrev pub given : Answer → ℕ → Explained
@@ -52,12 +50,6 @@ pub record Explanation (σ : Shape) (t : Span) (p : Place) (j : ℕ) (l : List �
   pub told : r ≡ given answer (length out)
   pub list : m ≡ written out l
 
--- what the call has found proper before it looks at the question
-pub record Taken (ws bs l : List ℕ) : Type 0 where
-  pub sized : Sized ws bs
-  pub problem : ProperProblem (widthsOf ws) (tableOf ws) (rulesOf bs)
-  pub room : entries ≤ length l
-
 module _ (ws bs : List ℕ) (n p j : ℕ) where
   -- there is a rule n, and bit j of its place p is open in the table as given
   pub record AsksOpenBit : Type 0 where
@@ -72,5 +64,5 @@ module _ (ws bs : List ℕ) (n p j : ℕ) where
 
   -- words ws, rules bs and the list l were lent; r comes back, and m stands in the list afterwards
   pub data Explaining (l : List ℕ) : Explained → List ℕ → Type 0 where
-    refused : {number place : ℕ} → refusalHere ws bs l ≡ Refused number place → Explaining l (explained.Refused number place) l
-    judged : {r : Explained} {m : List ℕ} → refusalHere ws bs l ≡ Ok → Judged l r m → Explaining l r m
+    refused : {number place : ℕ} → explainRefusal ws bs l ≡ Refused number place → Explaining l (explained.Refused number place) l
+    judged : {r : Explained} {m : List ℕ} → explainRefusal ws bs l ≡ Ok → Judged l r m → Explaining l r m

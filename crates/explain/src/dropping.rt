@@ -6,7 +6,7 @@ use crate::places;
 use crate::saying;
 ghost use Prim.Native.Nat.{_≤_};
 ghost use lib.ListN.{length};
-ghost use Rattle.hull.specs.Narrowing.{spanOf};
+ghost use Rattle.problem.specs.Places.{spanOf};
 ghost use Rattle.reasons.specs.Reason.{fixedAt};
 ghost use Rattle.explain.specs.Places.{placeOf};
 ghost use Rattle.explain.specs.Asking.{shapeIn, Asks};
@@ -18,7 +18,7 @@ fn drop_bit(
     list: &mut [u16],
     q: Question,
     x: Said,
-    g: hull::Bounds,
+    g: problem::Bounds,
     s: Kept,
     p: u64,
     b: u64,
@@ -40,11 +40,11 @@ fn drop_bit(
 }
 
 // The fixed bits of place p gone through, from bit 0 upwards, where the rule uses it.
-fn drop_place(list: &mut [u16], q: Question, x: Said, g: hull::Bounds, s: Kept, p: u64) -> Kept
+fn drop_place(list: &mut [u16], q: Question, x: Said, g: problem::Bounds, s: Kept, p: u64) -> Kept
     requires { ⌜ PlaceAsked q g s p (now list) ⌝ }
     ensures { λ r. ⌜ Gone q x (fixedAt (shapeIn q) (spanOf g) (placeOf p)) s (now (list .entry)) r (now (list .exit)) ⌝ }
 {
-    if !checker::rows::used(q.kind, p as usize + 1) {
+    if !problem::kinds::used(q.kind, p as usize + 1) {
         return s;
     }
     let w = places::width(q.w, p);
@@ -58,7 +58,7 @@ fn drop_place(list: &mut [u16], q: Question, x: Said, g: hull::Bounds, s: Kept, 
 }
 
 // All places gone through, from r to s. The number of entries listed comes back.
-pub fn reason(list: &mut [u16], q: Question, x: Said, t: hull::Bounds) -> u64
+pub fn reason(list: &mut [u16], q: Question, x: Said, t: problem::Bounds) -> u64
     requires { ⌜ Asks q t × (entries ≤ length (now list)) ⌝ }
     ensures { λ r. ⌜ Reasoned q x t (now (list .entry)) r (now (list .exit)) ⌝ }
 {

@@ -7,15 +7,16 @@ mod saying;
 
 ghost use Prim.Native.Nat.{_≤_};
 ghost use lib.ListN.{length};
-ghost use Rattle.hull.specs.Narrowing.{spanOf};
+ghost use Rattle.problem.specs.Places.{spanOf};
+ghost use Rattle.checker.specs.Promise.{Taken};
 ghost use Rattle.explain.specs.Asking.{shapeIn, placeIn, Asks};
-ghost use Rattle.explain.specs.Promise.{entries, Explanation, Taken, Judged, Explaining};
+ghost use Rattle.explain.specs.Promise.{entries, Explanation, Judged, Explaining};
 
 // A question: the kind and number of a rule, the widths of its places, and the place and the bit that are asked for.
 struct Question {
-    kind: u64,
+    kind: usize,
     k: u64,
-    w: rules::Widths,
+    w: problem::Widths,
     place: u64,
     bit: u64,
 }
@@ -29,7 +30,7 @@ enum Said {
 
 // How far the dropping has come: the bounds with the dropped bits open, and how many entries are kept.
 struct Kept {
-    t: hull::Bounds,
+    t: problem::Bounds,
     count: usize,
 }
 
@@ -48,11 +49,11 @@ const ENTRIES: usize = 193;
 const ASK: u64 = 10;
 
 // The answer for an open bit, its reason listed. FREE has none, and leaves the list as it was.
-fn answered(list: &mut [u16], q: Question, t: hull::Bounds) -> Explained
+fn answered(list: &mut [u16], q: Question, t: problem::Bounds) -> Explained
     requires { ⌜ Asks q t × (entries ≤ length (now list)) ⌝ }
     ensures { λ r. ⌜ Explanation (shapeIn q) (spanOf t) (placeIn q) (q .bit) (now (list .entry)) r (now (list .exit)) ⌝ }
 {
-    let o = hull::narrow(q.kind as usize, q.k, q.w, t);
+    let o = hull::narrow(q.kind, q.k, q.w, t);
     let x = saying::said_by(q, o);
     if let Said::Conflict = x {
         return Explained::Conflict(dropping::reason(list, q, x, t));
@@ -72,15 +73,21 @@ fn explain_proper(
     bit: u64,
     list: &mut [u16],
 ) -> Explained
-    requires { ⌜ Taken (now words) (now rules) (now list) ⌝ }
+    requires { ⌜ Taken entries (length (now list)) (now words) (now rules) ⌝ }
     ensures { λ r. ⌜ Judged (now (words .entry)) (now (rules .entry)) rule place bit (now (list .entry)) r (now (list .exit)) ⌝ }
 {
-    if (rules.len() / checker::FIELDS) as u64 <= rule {
+    if (rules.len() / problem::FIELDS) as u64 <= rule {
         return Explained::Refused(ASK, 0);
     }
-    let n = rule as usize;
-    let q = asking::question(words, rules, n, place, bit);
-    let t = asking::bounds_of(words, rules, n);
+    let x = problem::fields_of(rules, rule as usize);
+    let t = problem::bounds_of(words, x);
+    let q = Question {
+        kind: x.kind,
+        k: x.k,
+        w: problem::widths_of(words, x),
+        place,
+        bit,
+    };
     if !asking::is_open(q, t) {
         return Explained::Refused(ASK, 0);
     }

@@ -2,8 +2,7 @@
 ghost use mathlib.Core.Path.{_≡_};
 ghost use Prim.Native.Nat.{_<_};
 ghost use Rattle.words.specs.Bits.{bit};
-ghost use Rattle.rules.specs.Kinds.{widthOf};
-ghost use Rattle.hull.specs.Narrowing.{loOf, hiOf, spanOf};
+ghost use Rattle.problem.specs.Places.{widthOf, loOf, hiOf, spanOf};
 ghost use Rattle.reasons.specs.Reason.{cleared, filled, opened};
 ghost use Rattle.explain.specs.Places.{placeOf};
 
@@ -16,7 +15,7 @@ pub fn bit_of(n: u64, b: u64) -> u64
 }
 
 // The width at a place.
-pub fn width(w: rules::Widths, p: u64) -> u64
+pub fn width(w: problem::Widths, p: u64) -> u64
     ensures { λ r. ⌜ r ≡ widthOf w (placeOf p) ⌝ }
 {
     match p {
@@ -28,7 +27,7 @@ pub fn width(w: rules::Widths, p: u64) -> u64
 }
 
 // The low bound at a place.
-pub fn low(t: hull::Bounds, p: u64) -> u64
+pub fn low(t: problem::Bounds, p: u64) -> u64
     ensures { λ r. ⌜ r ≡ loOf t (placeOf p) ⌝ }
 {
     match p {
@@ -40,7 +39,7 @@ pub fn low(t: hull::Bounds, p: u64) -> u64
 }
 
 // The high bound at a place.
-pub fn high(t: hull::Bounds, p: u64) -> u64
+pub fn high(t: problem::Bounds, p: u64) -> u64
     ensures { λ r. ⌜ r ≡ hiOf t (placeOf p) ⌝ }
 {
     match p {
@@ -76,7 +75,7 @@ fn fill(n: u64, b: u64) -> u64
 }
 
 // The bounds with bit b treated as open at place p, and at no other.
-pub fn open_at(t: hull::Bounds, p: u64, b: u64) -> hull::Bounds
+pub fn open_at(t: problem::Bounds, p: u64, b: u64) -> problem::Bounds
     requires { ⌜ b < 64 ⌝ }
     ensures { λ r. ⌜ spanOf r ≡ opened (spanOf t) (placeOf p) b ⌝ }
 {

@@ -4,7 +4,7 @@ use crate::Said;
 use crate::places;
 ghost use mathlib.Core.Path.{_≡_};
 ghost use Prim.Native.Nat.{_<_};
-ghost use Rattle.hull.specs.Narrowing.{spanOf};
+ghost use Rattle.problem.specs.Places.{spanOf};
 ghost use Rattle.reasons.specs.Says.{Says};
 ghost use Rattle.lists.specs.Tests.{Decides};
 ghost use Rattle.explain.specs.Asking.{shapeIn, placeIn, answer, saidBy, Asks};
@@ -49,9 +49,9 @@ fn is_same(x: Said, y: Said) -> bool
 }
 
 // Whether the answer over the bounds t is x.
-pub fn stays(q: Question, x: Said, t: hull::Bounds) -> bool
+pub fn stays(q: Question, x: Said, t: problem::Bounds) -> bool
     requires { ⌜ Asks q t ⌝ }
     ensures { λ r. ⌜ Decides (Says (shapeIn q) (spanOf t) (placeIn q) (q .bit) (answer x)) r ⌝ }
 {
-    is_same(x, said_by(q, hull::narrow(q.kind as usize, q.k, q.w, t)))
+    is_same(x, said_by(q, hull::narrow(q.kind, q.k, q.w, t)))
 }

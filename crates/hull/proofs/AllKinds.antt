@@ -1,17 +1,20 @@
 -- What is computed for each kind is the hull: the theorem of the fourteen kinds. And what each function asks of a rule follows from a legal one.
 use mathlib.Core.Path.{_≡_, refl}
+use mathlib.Core.Logic.{_≢_}
 use Prim.Native.Nat.{ℕ, zero, suc, _+_, _<_, _-_}
 use native.Mathlib.Omega.{arith}
 use lib.Dec.{T}
 use Rattle.words.specs.Word.{Width}
-use Rattle.rules.specs.Kinds.{R, A, B, COPY, NOT, AND, OR, XOR, ADD, ITE, SLICE, JOIN, SHL, SHR, ULE, ULT, NE, Kind, op, rel, kindOf, widthOf}
+use Rattle.rules.specs.Kinds.{R, A, B, COPY, NOT, AND, OR, XOR, ADD, ITE, SLICE, JOIN, SHL, SHR, ULE, ULT, NE, Kind, op, rel, kindOf}
+use Rattle.problem.specs.Places.{widthOf, shaped, shapeOf, spanOf}
 use Rattle.rules.specs.Rows.{uses}
 use Rattle.rules.specs.Fits.{Legal}
-use Rattle.rules.specs.declared.Widths.{Widths}
-use Rattle.hull.specs.declared.Bounds.{Bounds}
+use Rattle.rules.specs.ProperProblem.{KindNumber}
+use Rattle.problem.specs.declared.Widths.{Widths}
+use Rattle.problem.specs.declared.Bounds.{Bounds}
 use Rattle.hull.specs.declared.Narrowed.{Narrowed}
 use Rattle.hull.specs.ByColumns.{columnsOf}
-use Rattle.hull.specs.Narrowing.{shaped, shapeOf, spanOf, narrowedAs, Narrows}
+use Rattle.hull.specs.Narrowing.{narrowedAs, Narrows}
 use Rattle.hull.proofs.Table.{below}
 use Rattle.hull.proofs.Slices.{copy-narrows, slice-kind-narrows, shr-narrows}
 use Rattle.hull.proofs.Inverts.{not-narrows}
@@ -62,25 +65,23 @@ module _ (κ k : ℕ) (w : Widths) (t : Bounds) (legal : Legal (shapeOf κ k w) 
   unfolding kindOf
   b-width e = let g : Legal (shapeOf 9 k w) (spanOf t) = rw e at legal in g .width B tt
 
--- the numbers of the kinds that go by columns: 3 to 7, and 12 to 14
-pub computed-told : (κ k : ℕ) (w : Widths) (t : Bounds) → 2 < κ → κ < 8 → columnsOf κ (w .a) t ≡ narrowedAs (kindOf κ) k w t
+-- the kinds that move no bits go by columns
+pub columns-told : (κ k : ℕ) (w : Widths) (t : Bounds) → KindNumber κ → κ ≢ 1 → κ ≢ 2 → κ ≢ 8 → κ ≢ 9 → κ ≢ 10 → κ ≢ 11
+    → columnsOf κ (w .a) t ≡ narrowedAs (kindOf κ) k w t
 unfolding kindOf
-computed-told κ k w t l h = let e : 3 + (κ - 3) ≡ κ = omega arith in rw e at (go (κ - 3) (omega arith))
-  where
-    go : (n : ℕ) → n < 5 → columnsOf (3 + n) (w .a) t ≡ narrowedAs (kindOf (3 + n)) k w t
-    go zero l = refl
-    go (suc zero) l = refl
-    go (suc (suc zero)) l = refl
-    go (suc (suc (suc zero))) l = refl
-    go (suc (suc (suc (suc zero)))) l = refl
-    go (suc (suc (suc (suc (suc n))))) l = absurd (omega arith)
-
-pub compared-told : (κ k : ℕ) (w : Widths) (t : Bounds) → 11 < κ → κ < 15 → columnsOf κ (w .a) t ≡ narrowedAs (kindOf κ) k w t
-unfolding kindOf
-compared-told κ k w t l h = let e : 12 + (κ - 12) ≡ κ = omega arith in rw e at (go (κ - 12) (omega arith))
-  where
-    go : (n : ℕ) → n < 3 → columnsOf (12 + n) (w .a) t ≡ narrowedAs (kindOf (12 + n)) k w t
-    go zero l = refl
-    go (suc zero) l = refl
-    go (suc (suc zero)) l = refl
-    go (suc (suc (suc n))) l = absurd (omega arith)
+columns-told zero k w t h a b d e f g = absurd (omega (arith, h .low))
+columns-told (suc zero) k w t h a b d e f g = absurd (a refl)
+columns-told (suc (suc zero)) k w t h a b d e f g = absurd (b refl)
+columns-told (suc (suc (suc zero))) k w t h a b d e f g = refl
+columns-told (suc (suc (suc (suc zero)))) k w t h a b d e f g = refl
+columns-told (suc (suc (suc (suc (suc zero))))) k w t h a b d e f g = refl
+columns-told (suc (suc (suc (suc (suc (suc zero)))))) k w t h a b d e f g = refl
+columns-told (suc (suc (suc (suc (suc (suc (suc zero))))))) k w t h a b d e f g = refl
+columns-told (suc (suc (suc (suc (suc (suc (suc (suc zero)))))))) k w t h a b d e f g = absurd (d refl)
+columns-told (suc (suc (suc (suc (suc (suc (suc (suc (suc zero))))))))) k w t h a b d e f g = absurd (e refl)
+columns-told (suc (suc (suc (suc (suc (suc (suc (suc (suc (suc zero)))))))))) k w t h a b d e f g = absurd (f refl)
+columns-told (suc (suc (suc (suc (suc (suc (suc (suc (suc (suc (suc zero))))))))))) k w t h a b d e f g = absurd (g refl)
+columns-told (suc (suc (suc (suc (suc (suc (suc (suc (suc (suc (suc (suc zero)))))))))))) k w t h a b d e f g = refl
+columns-told (suc (suc (suc (suc (suc (suc (suc (suc (suc (suc (suc (suc (suc zero))))))))))))) k w t h a b d e f g = refl
+columns-told (suc (suc (suc (suc (suc (suc (suc (suc (suc (suc (suc (suc (suc (suc zero)))))))))))))) k w t h a b d e f g = refl
+columns-told (suc (suc (suc (suc (suc (suc (suc (suc (suc (suc (suc (suc (suc (suc (suc n))))))))))))))) k w t h a b d e f g = absurd (omega (arith, h .high))

@@ -8,9 +8,10 @@ use Rattle.words.proofs.Order.{⊑-refl}
 use Rattle.rules.specs.Kinds.{Place, B, S, Op, op}
 use Rattle.rules.specs.Rows.{row, operand}
 use Rattle.rules.specs.Meaning.{result}
-use Rattle.hull.specs.declared.Bounds.{Bounds}
+use Rattle.problem.specs.declared.Bounds.{Bounds}
 use Rattle.hull.specs.Moves.{met}
-use Rattle.hull.specs.Narrowing.{shaped, spanOf, Narrows}
+use Rattle.problem.specs.Places.{shaped, spanOf}
+use Rattle.hull.specs.Narrowing.{Narrows}
 use Rattle.hull.proofs.Moving.{Moved, moved-narrows}
 
 module _ (o : Op) (k : ℕ) (w : Place → ℕ) (t : Bounds) (noB : ¬ T (operand (row o) B)) (noS : ¬ T (operand (row o) S)) (get : ℕ → ℕ) (into : ℕ → ℕ → ℕ) where

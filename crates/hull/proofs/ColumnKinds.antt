@@ -7,17 +7,18 @@ use native.Mathlib.Omega.{arith}
 use lib.Dec.{T, eqb, eqb·suc-zero}
 use lib.Bits.{bitAnd, and-mask}
 use lib.Pow.{mod-mod-pow}
-use Rattle.rules.specs.Kinds.{Place, R, A, B, S, Op, AND, OR, XOR, ADD, ITE, Rel, ULE, ULT, NE, Kind, op, rel}
+use Rattle.rules.specs.Kinds.{Place, R, A, B, S, Op, AND, OR, XOR, ADD, ITE, Rel, ULE, ULT, NE, Kind, op, rel, kindOf}
 use Rattle.rules.specs.Rows.{row, operand}
 use Rattle.rules.specs.Meaning.{Shape, result, choose, Holds}
 use Rattle.rules.specs.Fits.{Span, Uses, Legal}
-use Rattle.hull.specs.declared.Bounds.{Bounds}
+use Rattle.problem.specs.declared.Bounds.{Bounds}
 use Rattle.hull.specs.declared.Narrowed.{Narrowed}
 use Rattle.hull.specs.declared.Auto.{Auto}
 use Rattle.hull.specs.Runs.{Lane, lane-r, lane-a, lane-b, pick, Runs}
 use Rattle.hull.specs.Automata.{autoOf}
 use Rattle.hull.specs.ByColumns.{framedBy, framedOf, leftOf, sweptOf, fixedIn, valueOf, settled, columnsOf}
-use Rattle.hull.specs.Narrowing.{shaped, spanOf, loOf, hiOf, Narrows}
+use Rattle.problem.specs.Places.{shaped, spanOf, loOf, hiOf}
+use Rattle.hull.specs.Narrowing.{Narrows}
 use Rattle.hull.proofs.Meaning.{Under}
 use Rattle.hull.proofs.Results.{ands, ors, xors, sums, choices}
 use Rattle.hull.proofs.Orders.{ules, ults, nes}
@@ -50,15 +51,15 @@ module _ (k : ℕ) (w : Place → ℕ) (t : Bounds) where
       level lane-b used = sym e
 
   pub ule-narrows : Right k w t (rel ULE) 12
-  unfolding columnsOf sweptOf framedOf leftOf
+  unfolding columnsOf sweptOf framedOf leftOf kindOf
   ule-narrows legal = swept-narrows (shaped (rel ULE) k w) t (autoOf 12) true (compared ULE (autoOf 12) true (legal .fitting) (ules (w A))) legal
 
   pub ult-narrows : Right k w t (rel ULT) 13
-  unfolding columnsOf sweptOf framedOf leftOf
+  unfolding columnsOf sweptOf framedOf leftOf kindOf
   ult-narrows legal = swept-narrows (shaped (rel ULT) k w) t (autoOf 13) false (compared ULT (autoOf 13) false (legal .fitting) (ults (w A))) legal
 
   pub ne-narrows : Right k w t (rel NE) 14
-  unfolding columnsOf sweptOf framedOf leftOf
+  unfolding columnsOf sweptOf framedOf leftOf kindOf
   ne-narrows legal = swept-narrows (shaped (rel NE) k w) t (autoOf 14) false (compared NE (autoOf 14) false (legal .fitting) (nes (w A))) legal
 
 -- ---- AND, OR, XOR, ADD and ITE
@@ -97,15 +98,15 @@ module _ (k : ℕ) (w : Place → ℕ) (t : Bounds) where
       (λ h. settled-narrows o k w t v (all-fixed o h) says)
 
   pub and-narrows : Right k w t (op AND) 3
-  unfolding columnsOf sweptOf framedOf leftOf valueOf
+  unfolding columnsOf sweptOf framedOf leftOf kindOf valueOf
   and-narrows legal = op-narrows AND (autoOf 3) _ (computed AND (autoOf 3) tt (legal .fitting) (λ used. absurd used) (λ q is. ands (w A) q)) legal refl
 
   pub or-narrows : Right k w t (op OR) 4
-  unfolding columnsOf sweptOf framedOf leftOf valueOf
+  unfolding columnsOf sweptOf framedOf leftOf kindOf valueOf
   or-narrows legal = op-narrows OR (autoOf 4) _ (computed OR (autoOf 4) tt (legal .fitting) (λ used. absurd used) (λ q is. ors (w A) q)) legal refl
 
   pub xor-narrows : Right k w t (op XOR) 5
-  unfolding columnsOf sweptOf framedOf leftOf valueOf
+  unfolding columnsOf sweptOf framedOf leftOf kindOf valueOf
   xor-narrows legal = op-narrows XOR (autoOf 5) _ (computed XOR (autoOf 5) tt (legal .fitting) (λ used. absurd used) (λ q is. xors (w A) q)) legal refl
 
   -- a sum of 64 bits, taken to n of them
@@ -115,7 +116,7 @@ module _ (k : ℕ) (w : Place → ℕ) (t : Bounds) where
       and-mask ((a + b) % 2 ^ 64) n ∙ rw e at (mod-mod-pow (a + b) (64 - n) n)
 
   pub add-narrows : Right k w t (op ADD) 6
-  unfolding columnsOf sweptOf framedOf leftOf valueOf
+  unfolding columnsOf sweptOf framedOf leftOf kindOf valueOf
   add-narrows legal =
       op-narrows ADD (autoOf 6) _ (computed ADD (autoOf 6) tt (legal .fitting) (λ used. absurd used) means) legal
       (rw (legal .fitting .0) (sum-low (w A) (t .al) (t .bl) (legal .width A tt .high)))
@@ -131,7 +132,7 @@ module _ (k : ℕ) (w : Place → ℕ) (t : Bounds) where
   choose-pick (suc s) a b = rw (eqb·suc-zero s)
 
   pub ite-narrows : Right k w t (op ITE) 7
-  unfolding columnsOf sweptOf framedOf leftOf valueOf
+  unfolding columnsOf sweptOf framedOf leftOf kindOf valueOf
   ite-narrows legal =
       op-narrows ITE (autoOf 7) _ (computed ITE (autoOf 7) tt (legal .fitting .0, legal .fitting .1) (λ used. legal .fitting .2) means) legal
       (choose-pick (t .sl) (t .al) (t .bl))

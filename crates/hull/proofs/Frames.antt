@@ -13,13 +13,13 @@ use Rattle.rules.specs.Rows.{uses}
 use Rattle.rules.specs.Meaning.{Shape, Holds}
 use Rattle.rules.specs.Fits.{Uses, Legal, Fit}
 use Rattle.rules.proofs.Used.{only-used}
-use Rattle.hull.specs.declared.Bounds.{Bounds}
+use Rattle.problem.specs.declared.Bounds.{Bounds}
 use Rattle.hull.specs.declared.Auto.{Auto}
 use Rattle.hull.specs.declared.Swept.{Swept}
 use Rattle.hull.specs.Columns.{even, odd, keepIf, sweepOf}
 use Rattle.hull.specs.Runs.{Lane, lane-r, lane-a, lane-b, lo, hi, pick, Runs, RunIn}
 use Rattle.hull.specs.ByColumns.{lanesOf, framedBy}
-use Rattle.hull.specs.Narrowing.{spanOf, loOf, hiOf}
+use Rattle.problem.specs.Places.{spanOf, loOf, hiOf}
 use Rattle.hull.proofs.Size.{Below, small-of}
 use Rattle.lists.proofs.Bools.{beq-eq}
 use Rattle.hull.proofs.LowBit.{as-bit, one-inj, may-be→, may-be←}

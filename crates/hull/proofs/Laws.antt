@@ -20,7 +20,8 @@ use Rattle.rules.proofs.Tight.{tight-from, tight-to, hull-tight}
 use Rattle.rules.proofs.Narrowed.{narrowed}
 use Rattle.rules.proofs.Held.{Held, no-fit}
 use Rattle.hull.specs.declared.Narrowed.{Narrowed}
-use Rattle.hull.specs.Narrowing.{loOf, hiOf, Narrows}
+use Rattle.problem.specs.Places.{loOf, hiOf}
+use Rattle.hull.specs.Narrowing.{Narrows}
 use Rattle.hull.proofs.WrittenBack.{met-held, met-crossed}
 
 -- for a rule for which every table with P is tight, and what its narrowing in t leaves

@@ -12,9 +12,10 @@ use Rattle.rules.specs.Kinds.{Place, R, A, B, S, Op, op}
 use Rattle.rules.specs.Rows.{row, operand}
 use Rattle.rules.specs.Meaning.{Shape, result}
 use Rattle.rules.specs.Fits.{Uses, Fit}
-use Rattle.hull.specs.declared.Bounds.{Bounds}
+use Rattle.problem.specs.declared.Bounds.{Bounds}
 use Rattle.hull.specs.Moves.{decided, withRAB}
-use Rattle.hull.specs.Narrowing.{shaped, spanOf, loOf, hiOf, Narrows}
+use Rattle.problem.specs.Places.{shaped, spanOf, loOf, hiOf}
+use Rattle.hull.specs.Narrowing.{Narrows}
 use Rattle.hull.proofs.Decided.{ends-owed, narrows}
 
 module _ (o : Op) (k : ℕ) (w : Place → ℕ) (t : Bounds) (noS : ¬ T (operand (row o) S)) (get : ℕ → ℕ → ℕ) (into-a into-b : ℕ → ℕ → ℕ) where

@@ -13,10 +13,11 @@ use Rattle.rules.specs.Kinds.{Place, R, A, B, S, Op, op}
 use Rattle.rules.specs.Meaning.{Shape, result}
 use Rattle.rules.specs.Fits.{Uses, Fit}
 use Rattle.rules.proofs.Used.{result-used, A≢R, B≢R, S≢R}
-use Rattle.hull.specs.declared.Bounds.{Bounds}
+use Rattle.problem.specs.declared.Bounds.{Bounds}
 use Rattle.hull.specs.Moves.{withRA}
 use Rattle.hull.specs.ByColumns.{fixedIn, settled}
-use Rattle.hull.specs.Narrowing.{shaped, spanOf, loOf, hiOf, Narrows}
+use Rattle.problem.specs.Places.{shaped, spanOf, loOf, hiOf}
+use Rattle.hull.specs.Narrowing.{Narrows}
 use Rattle.lists.proofs.Bools.{and-left, and-right}
 use Rattle.hull.proofs.Decided.{ends-owed, narrows}
 

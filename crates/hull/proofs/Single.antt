@@ -7,9 +7,10 @@ use Rattle.rules.specs.Rows.{uses}
 use Rattle.rules.specs.Meaning.{Shape}
 use Rattle.rules.specs.Fits.{Span, Uses}
 use Rattle.rules.proofs.Hulls.{one-hull}
-use Rattle.hull.specs.declared.Bounds.{Bounds}
+use Rattle.problem.specs.declared.Bounds.{Bounds}
 use Rattle.hull.specs.declared.Narrowed.{Narrowed}
-use Rattle.hull.specs.Narrowing.{loOf, hiOf, Narrows}
+use Rattle.problem.specs.Places.{loOf, hiOf}
+use Rattle.hull.specs.Narrowing.{Narrows}
 
 -- bounds are equal if they are at each place
 bounds-path : (s t : Bounds) → ((p : Place) → (loOf s p ≡ loOf t p) × (hiOf s p ≡ hiOf t p)) → s ≡ t

@@ -15,9 +15,10 @@ use Rattle.words.proofs.Meets.{and-mono}
 use Rattle.rules.specs.Kinds.{Place, R, A, B, S, Op, COPY, SLICE, SHR, op}
 use Rattle.rules.specs.Rows.{row, operand}
 use Rattle.rules.specs.Meaning.{result}
-use Rattle.hull.specs.declared.Bounds.{Bounds}
+use Rattle.problem.specs.declared.Bounds.{Bounds}
 use Rattle.hull.specs.Moves.{shlBy, part, intoPart, sliceOf}
-use Rattle.hull.specs.Narrowing.{shaped, spanOf, Narrows}
+use Rattle.problem.specs.Places.{shaped, spanOf}
+use Rattle.hull.specs.Narrowing.{Narrows}
 use Rattle.hull.proofs.Parts.{by-parts, shl-low, shl-at, shl-out, shr-mono, part-at, part-high}
 use Rattle.hull.proofs.Alone.{alone-narrows}
 

@@ -8,7 +8,7 @@ use Rattle.rules.specs.Kinds.{Place, R, A, B, S}
 use Rattle.rules.specs.Rows.{uses}
 use Rattle.rules.specs.Meaning.{Shape}
 use Rattle.rules.specs.Fits.{Uses, Legal, Fit, Hull}
-use Rattle.hull.specs.declared.Bounds.{Bounds}
+use Rattle.problem.specs.declared.Bounds.{Bounds}
 use Rattle.hull.specs.declared.Narrowed.{Narrowed}
 use Rattle.hull.specs.declared.Auto.{Auto}
 use Rattle.hull.specs.declared.Lanes.{Lanes}
@@ -16,7 +16,8 @@ use Rattle.hull.specs.Columns.{even, odd}
 use Rattle.hull.specs.Runs.{lane-r, lane-a, lane-b}
 use Rattle.hull.specs.ByColumns.{leftBy}
 use Rattle.hull.specs.Moves.{decided}
-use Rattle.hull.specs.Narrowing.{spanOf, loOf, hiOf, Narrows}
+use Rattle.problem.specs.Places.{spanOf, loOf, hiOf}
+use Rattle.hull.specs.Narrowing.{Narrows}
 use Rattle.hull.proofs.Decided.{Owed, narrows}
 use Rattle.hull.proofs.OnlyUsed.{unpicked, hull-picked}
 use Rattle.hull.proofs.Tied.{lane-hull}

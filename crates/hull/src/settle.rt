@@ -1,11 +1,14 @@
 // Fixed operands: AND, OR, XOR, ADD and ITE compute their value at once, without columns.
-use crate::Bounds;
 use crate::Narrowed;
 use crate::moves::meet;
+use problem::Bounds;
+use problem::kinds;
 ghost use mathlib.Core.Path.{_≡_};
 ghost use mathlib.Core.Bool.{_&&_};
-ghost use lib.Dec.{ltb};
 ghost use Rattle.words.specs.Word.{Width};
+ghost use Rattle.rules.specs.Kinds.{R, kindOf};
+ghost use Rattle.rules.specs.Rows.{uses};
+ghost use Rattle.rules.specs.ProperProblem.{KindNumber};
 ghost use Rattle.hull.specs.ByColumns.{fixedIn, valueOf, settled};
 
 // Whether a, b and s have one value each.
@@ -20,13 +23,13 @@ fn value(kind: usize, n: u64, t: Bounds) -> u64
     requires { ⌜ Width n ⌝ }
     ensures { λ r. ⌜ r ≡ valueOf kind n t ⌝ }
 {
-    if kind == 3 {
+    if kind == kinds::AND {
         t.al & t.bl
-    } else if kind == 4 {
+    } else if kind == kinds::OR {
         t.al | t.bl
-    } else if kind == 5 {
+    } else if kind == kinds::XOR {
         t.al ^ t.bl
-    } else if kind == 6 {
+    } else if kind == kinds::ADD {
         std::num::wrapping_add_u64(t.al, t.bl) & words::mask(n)
     } else if t.sl == 0 {
         t.bl
@@ -37,9 +40,10 @@ fn value(kind: usize, n: u64, t: Bounds) -> u64
 
 // Whether the kind computes of fixed operands.
 pub fn at_once(kind: usize, f: Bounds) -> bool
-    ensures { λ r. ⌜ r ≡ (ltb kind 12 && fixedIn f) ⌝ }
+    requires { ⌜ KindNumber kind ⌝ }
+    ensures { λ r. ⌜ r ≡ (uses (kindOf kind) R && fixedIn f) ⌝ }
 {
-    (kind < 12) & fixed(f)
+    kinds::computes(kind) & fixed(f)
 }
 
 // r has the value that is computed in the frame f, if that lies between its bounds.

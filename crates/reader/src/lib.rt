@@ -77,10 +77,10 @@ pub fn read(file: &[u8], words: &mut [u64], rules: &mut [u8]) -> Reading
         Reads edition1 (now (file .entry)) (now (words .entry)) (now (rules .entry)) (now (words .exit)) (now (rules .exit)) r
         ⌝ }
 {
-    if words.len() / checker::STRIDE < 32 {
+    if words.len() / problem::STRIDE < 32 {
         return Reading::Refused(checker::SIZE, 0);
     }
-    if rules.len() / checker::FIELDS < 252 {
+    if rules.len() / problem::FIELDS < 252 {
         return Reading::Refused(checker::SIZE, 0);
     }
     let s = scan_file(file);

@@ -1,12 +1,12 @@
 // The words and rules of a proper file: where they stand, how they are stored, and refusals 4 to 9.
 use crate::block::load;
 use checker::Checked;
-use checker::FIELDS;
-use checker::STRIDE;
+use problem::FIELDS;
+use problem::STRIDE;
 ghost use mathlib.Core.Path.{_≡_};
 ghost use Prim.Native.Nat.{_+_, _*_, _<_, _≤_};
 ghost use lib.ListN.{length};
-ghost use Rattle.checker.specs.Lent.{stride, fields};
+ghost use Rattle.problem.specs.Lent.{stride, fields};
 ghost use Rattle.checker.specs.Refusal.{refusalWith};
 ghost use Rattle.lists.specs.Lists.{put};
 ghost use Rattle.blocks.specs.Edition.{edition1};

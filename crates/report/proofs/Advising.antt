@@ -5,7 +5,7 @@ use Prim.Native.Nat.{ℕ, _*_, _≤_, _<_}
 use native.Mathlib.Omega.{arith}
 use lib.ListN.{length, take, drop, length-append}
 use Rattle.tighten.specs.Memory.{Cleared}
-use Rattle.cause.specs.Promise.{workLength}
+use Rattle.cause.specs.Promise.{causeWork}
 use Rattle.blocks.specs.declared.Problem.{Problem}
 use Rattle.blocks.specs.declared.Reading.{Reading}
 use Rattle.blocks.specs.Edition.{edition1}
@@ -19,7 +19,7 @@ use Rattle.report.specs.Promise.{Lent, Asked, Told, told, noWords, noRul
 pub short-bytes : (f l k : List ℕ) → length l < most → Advises f l k (answer.Refused 1 0) l k
 short-bytes f l k h = size (λ x. omega (arith, x .bytes))
 
-pub short-work : (f l k : List ℕ) → length k < workLength → Advises f l k (answer.Refused 1 0) l k
+pub short-work : (f l k : List ℕ) → length k < causeWork → Advises f l k (answer.Refused 1 0) l k
 short-work f l k h = size (λ x. omega (arith, x .work))
 
 module _ {f y z : List ℕ} where

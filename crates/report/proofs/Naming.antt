@@ -16,7 +16,7 @@ use Rattle.causes.proofs.One.{same}
 use Rattle.solve.specs.Promise.{Comes}
 use Rattle.cause.specs.declared.Caused.{Caused}
 use Rattle.cause.specs.declared.Caused.the-variants as caused
-use Rattle.cause.specs.Promise.{Given, Named, Entered, Causing, NoneFirst}
+use Rattle.cause.specs.Promise.{CauseGiven, Named, Entered, Causing, NoneFirst}
 use Rattle.cause.proofs.Calling.{nothing-refused}
 use Rattle.report.specs.Text.{unsat, named, unnamed}
 use Rattle.report.specs.Printed.{Printed}
@@ -59,7 +59,7 @@ module _ {limit : ℕ} {ws bs s k : List ℕ} where
   not-exists : {g h : ℕ} {s′ n : List ℕ} → Causing limit ws bs s k (caused.Exists g) s′ n → Comes limit ws bs (none h) → ⊥
   not-exists (Causing.exists-at given x c) comes = no-exists limit ws bs x comes
 
-  not-refused : {a b : ℕ} {s′ n : List ℕ} → Causing limit ws bs s k (caused.Refused a b) s′ n → Given limit ws bs s k → ⊥
+  not-refused : {a b : ℕ} {s′ n : List ℕ} → Causing limit ws bs s k (caused.Refused a b) s′ n → CauseGiven limit ws bs s k → ⊥
   not-refused (Causing.refused e) given = refused-not-ok e (given .passed)
 
   module _ {r : Caused} {s′ n : List ℕ} (x : Causing limit ws bs s k r s′ n) where
@@ -77,5 +77,5 @@ module _ {limit : ℕ} {ws bs s k : List ℕ} where
     pub never-exists : {g h : ℕ} → r ≡ caused.Exists g → Comes limit ws bs (none h) → ⊥
     never-exists q comes = not-exists (rw q at x) comes
 
-    pub never-refused : {a b : ℕ} → r ≡ caused.Refused a b → Given limit ws bs s k → ⊥
+    pub never-refused : {a b : ℕ} → r ≡ caused.Refused a b → CauseGiven limit ws bs s k → ⊥
     never-refused q given = not-refused (rw q at x) given

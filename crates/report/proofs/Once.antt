@@ -3,7 +3,7 @@ use mathlib.Core.Path.{_≡_, refl}
 use mathlib.Core.List.{List}
 use Prim.Native.Nat.{ℕ}
 use native.Mathlib.Omega.{arith}
-use Rattle.checker.specs.Lent.{widthsOf, tableOf, rulesOf}
+use Rattle.problem.specs.Lent.{widthsOf, tableOf, rulesOf}
 use Rattle.tighten.proofs.Once.{cleared-once}
 use Rattle.search.proofs.Outcomes.{found-not-none, found-not-gave-up, none-not-gave-up}
 use Rattle.causes.proofs.One.{one-cause}

@@ -3,7 +3,7 @@ use mathlib.Core.Path.{_≡_, sym, ap, _∙_}
 use mathlib.Core.List.{List, [], _∷_, _++_, map, append-assoc, append-nil}
 use Prim.Native.Nat.{ℕ, _≤_}
 use Rattle.lists.specs.Lists.{at, flat}
-use Rattle.checker.specs.Lent.{wordCount, widthAt, widthsOf}
+use Rattle.problem.specs.Lent.{wordCount, widthAt, widthsOf}
 use Rattle.lists.proofs.Series.{length-series, series-at}
 use Rattle.decimal.specs.Text.{decimal, spaced}
 use Rattle.decimal.specs.Putting.{Appended}

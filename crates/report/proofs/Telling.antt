@@ -6,7 +6,7 @@ use native.Mathlib.Omega.{arith}
 use lib.ListN.{length}
 use Rattle.checker.proofs.Firsts.{refused-not-ok}
 use Rattle.lists.specs.Lists.{at}
-use Rattle.checker.specs.Lent.{wordCount, widthAt, widthsOf}
+use Rattle.problem.specs.Lent.{wordCount, widthAt, widthsOf}
 use Rattle.checker.proofs.Right.{ok-fine}
 use Rattle.lists.proofs.Series.{length-series, series-at}
 use Rattle.tighten.specs.Memory.{Cleared}
@@ -64,7 +64,7 @@ module _ {limit : ℕ} {ws bs m k : List ℕ} where
       → Told limit ws bs l k e l′ n
   gave-up-after (Solving.gave-up-at given s c) p = told (gave-up-at s) p c
 
-  not-refused : {a b : ℕ} {m′ n : List ℕ} → Solving limit ws bs m k (solved.Refused a b) m′ n → Solve.Given limit ws bs m k → ⊥
+  not-refused : {a b : ℕ} {m′ n : List ℕ} → Solving limit ws bs m k (solved.Refused a b) m′ n → Solve.SolveGiven limit ws bs m k → ⊥
   not-refused (Solving.refused e) given = refused-not-ok e (given .passed)
 
   module _ {r : Solved} {m′ n : List ℕ} (s : Solving limit ws bs m k r m′ n) where

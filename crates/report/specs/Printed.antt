@@ -3,7 +3,7 @@ use mathlib.Core.Path.{_≡_}
 use mathlib.Core.List.{List, _++_}
 use Prim.Native.Nat.{ℕ, _≤_, _<_}
 use lib.ListN.{length, drop}
-use Rattle.checker.specs.Lent.{wordCount, widthAt}
+use Rattle.problem.specs.Lent.{wordCount, widthAt}
 use Rattle.report.specs.Text.{Report, textOf}
 
 -- bytes that always do for a report

@@ -4,13 +4,13 @@ use mathlib.Core.List.{List}
 use Prim.Native.Nat.{ℕ, _≤_}
 use lib.ListN.{length}
 use Rattle.checker.specs.declared.Checked.{Checked}
-use Rattle.checker.specs.Lent.{widthsOf}
+use Rattle.problem.specs.Lent.{widthsOf}
 use Rattle.checker.specs.Demands.{SIZE, number}
 use Rattle.tighten.specs.Memory.{Cleared}
 use Rattle.search.specs.Search.{found, none, gave-up}
 use Rattle.causes.specs.Cause.{CAUSE, GAVE-UP}
 use Rattle.solve.specs.Promise.{Comes}
-use Rattle.cause.specs.Promise.{workLength, Named}
+use Rattle.cause.specs.Promise.{causeWork, Named}
 use Rattle.blocks.specs.declared.Reading.{Reading}
 use Rattle.lists.specs.Lists.{zeros}
 use Rattle.blocks.specs.Edition.{edition1}
@@ -24,7 +24,7 @@ use Rattle.report.specs.Printed.{most, Printed}
 -- enough bytes and, as for a cause, enough work memory were lent
 pub record Lent (l k : List ℕ) : Type 0 where
   pub bytes : most ≤ length l
-  pub work : workLength ≤ length k
+  pub work : causeWork ≤ length k
 
 -- what a problem's own search and, after NONE, the procedure for its cause come to
 pub data Answers (limit : ℕ) (ws bs : List ℕ) : Report → Type 0 where

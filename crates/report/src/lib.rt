@@ -78,8 +78,8 @@ pub fn advise(file: &[u8], out: &mut [u8], work: &mut [u64]) -> Advised
             Advised::Lines(put_refused(out, number, place))
         }
         Reading::Ok(x) => {
-            let w = checker::STRIDE * x.words;
-            let r = checker::FIELDS * x.rules;
+            let w = problem::STRIDE * x.words;
+            let r = problem::FIELDS * x.rules;
             Advised::Lines(tell(&words[..w], &rules[..r], x.limit, out, work))
         }
     }

@@ -3,10 +3,10 @@
 use crate::line::put_entries;
 use crate::line::put_line;
 use crate::line::put_word;
-use checker::STRIDE;
+use problem::STRIDE;
 ghost use Prim.Native.Nat.{_+_, _*_, _≤_};
 ghost use lib.ListN.{length, take};
-ghost use Rattle.checker.specs.Lent.{wordCount, widthsOf};
+ghost use Rattle.problem.specs.Lent.{wordCount, widthsOf};
 ghost use Rattle.decimal.specs.Putting.{Appended};
 ghost use Rattle.report.specs.Text.{wordLines, causeLine, named, unnamed, sat, unsat, unknown, refused};
 ghost use Rattle.report.specs.Printed.{most, Printed, Valued};

@@ -2,18 +2,10 @@
 use mathlib.Core.List.{[], _∷_}
 use Prim.Native.Nat.{ℕ, _-_}
 use lib.ListN.{getD}
-use Rattle.rules.specs.declared.Widths.{Widths}
 
 -- the places of a rule: its fields r, a, b and s
 pub data Place : Type 0 where
   R A B S : Place
-
--- the width at each
-abbrev pub widthOf : Widths → Place → ℕ
-widthOf w R = w .r
-widthOf w A = w .a
-widthOf w B = w .b
-widthOf w S = w .s
 
 -- the kinds that compute their word r, 1 to 11
 pub data Op : Type 0 where

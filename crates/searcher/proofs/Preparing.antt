@@ -13,7 +13,7 @@ use Rattle.words.specs.Count.{openBelow}
 use Rattle.words.proofs.Tables.{self, inside-trans}
 use Rattle.rules.specs.Tightening.{Widest}
 use Rattle.rules.proofs.Propers.{proper-narrower}
-use Rattle.checker.specs.Lent.{wordCount}
+use Rattle.problem.specs.Lent.{wordCount}
 use Rattle.tighten.specs.Memory.{tableIn}
 use Rattle.tighten.specs.Ready.{Settled}
 use Rattle.tighten.proofs.Memory.{low-at, high-at, lows, highs}

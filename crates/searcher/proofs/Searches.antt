@@ -15,7 +15,7 @@ use Rattle.words.proofs.Fixing.{inside0, inside1}
 use Rattle.rules.specs.Tight.{Tight}
 use Rattle.rules.specs.Proper.{Proper}
 use Rattle.rules.proofs.Propers.{proper-inside, proper-narrower}
-use Rattle.checker.specs.Lent.{wordCount, widthsOf, rulesOf}
+use Rattle.problem.specs.Lent.{wordCount, widthsOf, rulesOf}
 use Rattle.tighten.specs.Memory.{tableIn}
 use Rattle.trail.specs.Trail.{RolledBack}
 use Rattle.search.specs.Search.{found, none, Search, first, second, ends-found, ends-gave-up}

@@ -10,9 +10,9 @@ use Rattle.words.specs.Table.{Table}
 use Rattle.lists.specs.Lists.{at}
 use Rattle.rules.specs.Tight.{Tight}
 use Rattle.rules.proofs.Propers.{proper-inside, bitsBelow, open-bits}
-use Rattle.checker.specs.Lent.{wordCount, widthsOf, tableOf, rulesOf, loAt, hiAt}
+use Rattle.problem.specs.Lent.{wordCount, widthsOf, tableOf, rulesOf, loAt, hiAt}
 use Rattle.lists.proofs.Series.{length-series}
-use Rattle.checker.proofs.Series.{lo-at, hi-at}
+use Rattle.problem.proofs.Lents.{lo-at, hi-at}
 use Rattle.tighten.specs.Memory.{tableIn, Loaded}
 use Rattle.trail.specs.Trail.{copied, Moved}
 use Rattle.search.specs.Search.{Search}

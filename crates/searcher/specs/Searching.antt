@@ -8,7 +8,7 @@ use Rattle.lists.specs.Lists.{at}
 use Rattle.words.specs.Count.{openBelow}
 use Rattle.rules.specs.Tight.{Tight}
 use Rattle.rules.specs.Tightening.{Widest}
-use Rattle.checker.specs.Lent.{wordCount, widthsOf, rulesOf}
+use Rattle.problem.specs.Lent.{wordCount, widthsOf, rulesOf}
 use Rattle.tighten.specs.Memory.{tableIn, chosen}
 use Rattle.tighten.specs.Ready.{Ready, Listed}
 use Rattle.trail.specs.Trail.{copied, undone}

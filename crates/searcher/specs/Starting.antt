@@ -5,7 +5,7 @@ use Prim.Native.Nat.{ℕ, _≤_, _<_}
 use lib.ListN.{length}
 use Rattle.lists.specs.Lists.{at}
 use Rattle.rules.specs.ProperProblem.{ProperProblem}
-use Rattle.checker.specs.Lent.{wordCount, widthsOf, tableOf, rulesOf}
+use Rattle.problem.specs.Lent.{wordCount, widthsOf, tableOf, rulesOf}
 use Rattle.checker.specs.Demands.{Sized}
 use Rattle.tighten.specs.Memory.{tableIn}
 use Rattle.tighten.specs.Ready.{Listed}

@@ -32,7 +32,7 @@ fn prepare(
     requires { ⌜ Begun (now words) (now rules) (now work) count base used limit ⌝ }
     ensures { λ r. ⌜ Prepared (now (words .entry)) (now (rules .entry)) count limit (now (work .entry)) base used r (now (work .exit)) ⌝ }
 {
-    let n = words.len() / checker::STRIDE;
+    let n = words.len() / problem::STRIDE;
     if !tighten::settle(work, words, rules, count) {
         return Step::Ends(Answer::Nothing(used));
     }
@@ -74,7 +74,7 @@ pub fn search(
             limit,
         ) {
             Answer::Nothing(m) => {
-                guess::second_value(work, words.len() / checker::STRIDE, word);
+                guess::second_value(work, words.len() / problem::STRIDE, word);
                 let a = search(work, words, rules, count, entries, m, limit);
                 trail::rollback(work, base, entries);
                 a
@@ -102,7 +102,7 @@ pub fn search_problem(
     requires { ⌜ Asked (now words) (now rules) (now work) count ⌝ }
     ensures { λ r. ⌜ Sought (now (words .entry)) (now (rules .entry)) count limit (now (work .entry)) r (now (work .exit)) ⌝ }
 {
-    let n = words.len() / checker::STRIDE;
+    let n = words.len() / problem::STRIDE;
     tighten::buffer::load(work, words, n);
     trail::copy_table(work, n, 0, trail::COPY);
     search(work, words, rules, count, 0, 0, limit)

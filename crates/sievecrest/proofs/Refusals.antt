@@ -7,9 +7,9 @@ use native.Mathlib.Omega.{arith}
 use lib.Dec.{leb}
 use lib.ListN.{length}
 use Rattle.checker.specs.declared.Checked.{Checked}
-use Rattle.checker.specs.Lent.{wordCount, ruleCount}
+use Rattle.problem.specs.Lent.{wordCount, ruleCount}
 use Rattle.checker.specs.Demands.{Demand, SIZE, WIDTH, TABLE, KIND, FIELD, FIT, LIMIT, number, place, by-phase, Sized}
-use Rattle.checker.specs.Refusal.{asks, _then_, refusal, refusalWith, room}
+use Rattle.checker.specs.Refusal.{asks, _then_, refusal, refusalWith, withRoom}
 use Rattle.checker.specs.Promise.{FirstUnmet, Right}
 use Rattle.checker.proofs.Right.{check-right, no-limit}
 use Rattle.checker.proofs.Faults.{unmet-there}
@@ -43,13 +43,14 @@ abbrev SmallAnswer : Checked → Type 0
 SmallAnswer Checked.Ok = Unit {0}
 SmallAnswer (Checked.Refused n p) = Small n p
 
-room-small : (needed lent : ℕ) (y : Checked) → SmallAnswer y → SmallAnswer (room needed lent y)
-unfolding room
-room-small needed lent y h = go (leb needed lent)
+room-small : (a x b y : ℕ) (z : Checked) → SmallAnswer z → SmallAnswer (withRoom a x b y z)
+unfolding withRoom
+room-small a x b y z h = go (leb a x) (leb b y)
   where
-    go : (b : Bool) → SmallAnswer (asks SIZE b then y)
-    go true = h
-    go false = small 1 0 (omega arith) (omega arith)
+    go : (p q : Bool) → SmallAnswer (asks SIZE p then asks SIZE q then z)
+    go true true = h
+    go true false = small 1 0 (omega arith) (omega arith)
+    go false q = small 1 0 (omega arith) (omega arith)
 
 module _ (limit : ℕ) (ws bs : List ℕ) where
   -- a word or a rule that is there, where the sizes fit
@@ -87,17 +88,16 @@ pub check-refused : (limit : ℕ) (ws bs : List ℕ) {n p : ℕ} → refusalWith
 check-refused limit ws bs q = given-small q (check-small limit ws bs)
 
 pub tighten-refused : {ws bs l vs m : List ℕ} {n p : ℕ} → Tighten.Tightening ws bs l (Answer.Refused n p) vs m → Small n p × (vs ≡ ws) × (m ≡ l)
-unfolding Tighten.refusalHere
+unfolding Tighten.tightenRefusal
 tighten-refused {ws} {bs} {l} (Tighten.refused q) =
-    (given-small q (room-small Tighten.workLength (length l) (refusal ws bs) (problem-small ws bs)), refl, refl)
+    (given-small q (room-small Tighten.tightenWork (length l) 0 0 (refusal ws bs) (problem-small ws bs)), refl, refl)
 
 pub solve-refused : {limit n p : ℕ} {ws bs m l m′ l′ : List ℕ} → Solve.Solving limit ws bs m l (Solved.Refused n p) m′ l′
     → Small n p × (m′ ≡ m) × (l′ ≡ l)
-unfolding Solve.refusalHere
+unfolding Solve.solveRefusal
 solve-refused {limit} {ws = ws} {bs} {m} {l} (Solve.refused q) = (
   given-small q
-      (room-small Solve.workLength (length l) (room (wordCount ws) (length m) (refusalWith limit ws bs))
-      (room-small (wordCount ws) (length m) (refusalWith limit ws bs) (check-small limit ws bs))),
+      (room-small Solve.solveWork (length l) (wordCount ws) (length m) (refusalWith limit ws bs) (check-small limit ws bs)),
   refl,
   refl,
 )
@@ -108,19 +108,18 @@ never-given c (Says.FORCED b) e = let z : _≡_ {A = ℕ} 0 1 = cc in omega arit
 never-given c Says.FREE e = let z : _≡_ {A = ℕ} 0 1 = cc in omega arith
 
 pub explain-refused : {ws bs l l′ : List ℕ} {i p j n q : ℕ} → Explain.Explaining ws bs i p j l (Explained.Refused n q) l′ → Small n q × (l′ ≡ l)
-unfolding Explain.refusalHere
+unfolding Explain.explainRefusal
 explain-refused {ws} {bs} {l} (Explain.refused e) =
-    (given-small e (room-small Explain.entries (length l) (refusal ws bs) (problem-small ws bs)), refl)
+    (given-small e (room-small Explain.entries (length l) 0 0 (refusal ws bs) (problem-small ws bs)), refl)
 explain-refused (Explain.judged e (Explain.not-asked d)) = (small 10 0 (omega arith) (omega arith), refl)
 explain-refused (Explain.judged e (Explain.answered a g)) = absurd (never-given (length (g .out)) (g .answer) (g .told))
 
 pub cause-refused : {limit n p : ℕ} {ws bs m l m′ l′ : List ℕ} → Cause.Causing limit ws bs m l (Caused.Refused n p) m′ l′
     → Small n p × (m′ ≡ m) × (l′ ≡ l)
-unfolding Cause.refusalHere
+unfolding Cause.causeRefusal
 cause-refused {limit} {ws = ws} {bs} {m} {l} (Cause.refused q) = (
   given-small q
-      (room-small Cause.workLength (length l) (room (ruleCount bs) (length m) (refusalWith limit ws bs))
-      (room-small (ruleCount bs) (length m) (refusalWith limit ws bs) (check-small limit ws bs))),
+      (room-small Cause.causeWork (length l) (ruleCount bs) (length m) (refusalWith limit ws bs) (check-small limit ws bs)),
   refl,
   refl,
 )

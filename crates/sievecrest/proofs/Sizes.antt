@@ -1,5 +1,5 @@
 -- The parts of every answer are within their bits, so that one number holds them.
-use mathlib.Core.Path.{_≡_, refl, sym, _∙_}
+use mathlib.Core.Path.{_≡_, refl, _∙_}
 use mathlib.Core.List.{List}
 use Prim.Native.Nat.{ℕ, suc, _+_, _*_, _≤_, _<_}
 use native.Mathlib.Nat.{mul-le-mul-right}
@@ -11,12 +11,12 @@ use Rattle.rules.specs.Meaning.{Shape}
 use Rattle.rules.specs.Fits.{Span, Legal}
 use Rattle.rules.proofs.ProperRules.{problem-legal}
 use Rattle.checker.specs.declared.Checked.{Checked}
-use Rattle.checker.specs.Lent.{wordCount, ruleCount, ruleAt, rulesOf}
+use Rattle.problem.specs.Lent.{wordCount, ruleCount, ruleAt, rulesOf}
 use Rattle.checker.specs.Demands.{number, place, Sized}
-use Rattle.checker.specs.Refusal.{refusal, refusalWith, room}
+use Rattle.checker.specs.Refusal.{refusalWith}
 use Rattle.checker.specs.Promise.{Fine}
-use Rattle.checker.proofs.Right.{ok-fine, no-limit}
-use Rattle.checker.proofs.Rooms.{has-room}
+use Rattle.checker.proofs.Right.{ok-fine}
+use Rattle.checker.proofs.Rooms.{has-room, taken}
 use Rattle.lists.proofs.Series.{length-series}
 use Rattle.tighten.specs.declared.Answer.{Answer}
 use Rattle.tighten.specs.Promise as Tighten
@@ -97,31 +97,29 @@ module _ {σ : Shape} {t : Span} (legal : Legal σ t) {p : Place} {j : ℕ} wher
 
 module _ {ws bs : List ℕ} {n p j : ℕ} {l : List ℕ} where
   pub explain-within : {x : Explained} {m : List ℕ} → Explain.Explaining ws bs n p j l x m → Within (explained x)
-  unfolding Explain.refusalHere
+  unfolding Explain.explainRefusal
   explain-within (Explain.refused q) = small-within (explain-refused {ws = ws} {bs = bs} {l = l} {i = n} {p = p} {j = j} (Explain.refused q) .0)
   explain-within (Explain.judged q (Explain.not-asked d)) = within 10 0 0 (omega arith) (omega arith) (omega arith)
   explain-within (Explain.judged q (Explain.answered a g)) =
-      let f = ok-fine 0 ws bs (sym (no-limit ws bs) ∙ has-room Explain.entries (length l) (refusal ws bs) q .1) in
+      let f = taken Explain.entries (length l) ws bs q in
       given-within (problem-legal (f .problem) (f .problem .table) n (omega (arith, a .there, length-series (ruleCount bs) (ruleAt bs)))) g
 
 -- ---- cause
 
 module _ {limit : ℕ} {ws bs s l : List ℕ} where
-  taken : Causing.Given limit ws bs s l → Fine limit ws bs
-  unfolding Causing.refusalHere
-  taken g =
-      let a = has-room Causing.workLength (length l) (room (ruleCount bs) (length s) (refusalWith limit ws bs)) (g .passed) in
-      ok-fine limit ws bs (has-room (ruleCount bs) (length s) (refusalWith limit ws bs) (a .1) .1)
+  passed-fine : Causing.CauseGiven limit ws bs s l → Fine limit ws bs
+  unfolding Causing.causeRefusal
+  passed-fine g = ok-fine limit ws bs (has-room Causing.causeWork (length l) (ruleCount bs) (length s) (refusalWith limit ws bs) (g .passed) .2)
 
   -- 253 searches of at most 1,000,000 guesses each
-  sum-within : {x : Cause.Cause} → Causing.Given limit ws bs s l → Causing.Named limit ws bs x → sum x < 4294967296
+  sum-within : {x : Cause.Cause} → Causing.CauseGiven limit ws bs s l → Causing.Named limit ws bs x → sum x < 4294967296
   sum-within g x =
-      let f = taken g in
+      let f = passed-fine g in
       let few : suc (length (rulesOf bs)) ≤ 253 = omega (arith, f .sized .rules, length-series (ruleCount bs) (ruleAt bs)) in
       omega (arith, sum-limit x, mul-le-mul-right limit few, f .guesses)
 
-  named-within : {out : List ℕ} {g : ℕ} → Causing.Given limit ws bs s l → Causing.Named limit ws bs (Cause.CAUSE out g) → length out ≤ 252
-  named-within g x = let f = taken g in omega (arith, named-rules x, f .sized .rules, length-series (ruleCount bs) (ruleAt bs))
+  named-within : {out : List ℕ} {g : ℕ} → Causing.CauseGiven limit ws bs s l → Causing.Named limit ws bs (Cause.CAUSE out g) → length out ≤ 252
+  named-within g x = let f = passed-fine g in omega (arith, named-rules x, f .sized .rules, length-series (ruleCount bs) (ruleAt bs))
 
   pub cause-within : {x : Caused} {s′ l′ : List ℕ} → Causing.Causing limit ws bs s l x s′ l′ → Within (caused x)
   cause-within (Causing.refused q) = small-within (cause-refused (Causing.refused q) .0)

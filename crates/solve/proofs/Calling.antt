@@ -6,11 +6,11 @@ use native.Mathlib.Omega.{arith}
 use lib.ListN.{length}
 use Rattle.lists.specs.Lists.{at}
 use Rattle.checker.specs.declared.Checked.the-variants.{Ok, Refused}
-use Rattle.checker.specs.Lent.{wordCount, ruleCount}
-use Rattle.checker.specs.Refusal.{refusalWith, room}
+use Rattle.problem.specs.Lent.{wordCount, ruleCount}
+use Rattle.checker.specs.Refusal.{refusalWith}
 use Rattle.checker.specs.Promise.{Fine}
 use Rattle.checker.proofs.Right.{ok-fine}
-use Rattle.checker.proofs.Rooms.{too-short, enough, has-room}
+use Rattle.checker.proofs.Rooms.{first-short, second-short, roomy, has-room}
 use Rattle.tighten.specs.Memory.{tableIn, Numbered, Cleared}
 use Rattle.tighten.proofs.Calling.{all-chosen, all-listed}
 use Rattle.tighten.proofs.Memory.{low-at}
@@ -19,52 +19,43 @@ use Rattle.searcher.specs.declared.Answer.the-variants.{Found, Nothing, GaveUp}
 use Rattle.searcher.specs.Searching.{outcomeOf}
 use Rattle.searcher.specs.Starting.{Asked, Sought}
 use Rattle.solve.specs.declared.Solved.the-variants as answer
-use Rattle.solve.specs.Promise.{workLength, refusalHere, Given, Stored, Comes, Solving, refused, found-first, found-none, gave-up-at}
+use Rattle.solve.specs.Promise.{solveWork, solveRefusal, Stored, Comes, Solving, refused, found-first, found-none, gave-up-at, SolveGiven}
 
 -- ---- what is refused
 
 module _ (limit : ℕ) (ws bs m l : List ℕ) where
-  pub short-work : length l < workLength → Solving limit ws bs m l (answer.Refused 1 0) m l
-  unfolding refusalHere
-  short-work h = refused (too-short workLength (length l) (room (wordCount ws) (length m) (refusalWith limit ws bs)) h)
+  pub short-work : length l < solveWork → Solving limit ws bs m l (answer.Refused 1 0) m l
+  unfolding solveRefusal
+  short-work h = refused (first-short solveWork (length l) (wordCount ws) (length m) (refusalWith limit ws bs) h)
 
-  pub short-model : workLength ≤ length l → length m < wordCount ws → Solving limit ws bs m l (answer.Refused 1 0) m l
-  unfolding refusalHere
-  short-model g h =
-      refused
-      (enough workLength (length l) (room (wordCount ws) (length m) (refusalWith limit ws bs)) g
-      ∙ too-short (wordCount ws) (length m) (refusalWith limit ws bs) h)
+  pub short-model : solveWork ≤ length l → length m < wordCount ws → Solving limit ws bs m l (answer.Refused 1 0) m l
+  unfolding solveRefusal
+  short-model g h = refused (second-short solveWork (length l) (wordCount ws) (length m) (refusalWith limit ws bs) g h)
 
-  passed : workLength ≤ length l → wordCount ws ≤ length m → refusalHere limit ws bs m l ≡ refusalWith limit ws bs
-  unfolding refusalHere
-  passed g h =
-      enough workLength (length l) (room (wordCount ws) (length m) (refusalWith limit ws bs)) g ∙ enough (wordCount ws) (length m) (refusalWith limit ws bs) h
-
-  pub problem-refused : {n p : ℕ} → workLength ≤ length l → wordCount ws ≤ length m → refusalWith limit ws bs ≡ Refused n p
+  pub problem-refused : {n p : ℕ} → solveWork ≤ length l → wordCount ws ≤ length m → refusalWith limit ws bs ≡ Refused n p
       → Solving limit ws bs m l (answer.Refused n p) m l
-  problem-refused g h e = refused (passed g h ∙ e)
+  unfolding solveRefusal
+  problem-refused g h e = refused (roomy solveWork (length l) (wordCount ws) (length m) (refusalWith limit ws bs) g h ∙ e)
 
-  pub nothing-refused : workLength ≤ length l → wordCount ws ≤ length m → refusalWith limit ws bs ≡ Ok → Given limit ws bs m l
-  nothing-refused g h e = record { passed = passed g h ∙ e }
+  pub nothing-refused : solveWork ≤ length l → wordCount ws ≤ length m → refusalWith limit ws bs ≡ Ok → SolveGiven limit ws bs m l
+  unfolding solveRefusal
+  nothing-refused g h e = record { passed = roomy solveWork (length l) (wordCount ws) (length m) (refusalWith limit ws bs) g h ∙ e }
 
 -- ---- what is not
 
-module _ {limit : ℕ} {ws bs m l : List ℕ} (given : Given limit ws bs m l) where
-  both : (workLength ≤ length l) × (room (wordCount ws) (length m) (refusalWith limit ws bs) ≡ Ok)
-  unfolding refusalHere
-  both = has-room workLength (length l) (room (wordCount ws) (length m) (refusalWith limit ws bs)) (given .passed)
+module _ {limit : ℕ} {ws bs m l : List ℕ} (given : SolveGiven limit ws bs m l) where
+  roomed : (solveWork ≤ length l) × (wordCount ws ≤ length m) × (refusalWith limit ws bs ≡ Ok)
+  unfolding solveRefusal
+  roomed = has-room solveWork (length l) (wordCount ws) (length m) (refusalWith limit ws bs) (given .passed)
 
-  rest : (wordCount ws ≤ length m) × (refusalWith limit ws bs ≡ Ok)
-  rest = has-room (wordCount ws) (length m) (refusalWith limit ws bs) (both .1)
-
-  pub work-room : workLength ≤ length l
-  work-room = both .0
+  pub work-room : solveWork ≤ length l
+  work-room = roomed .0
 
   pub model-room : wordCount ws ≤ length m
-  model-room = rest .0
+  model-room = roomed .1
 
   pub fine : Fine limit ws bs
-  fine = ok-fine limit ws bs (rest .1)
+  fine = ok-fine limit ws bs (roomed .2)
 
   module _ {k : List ℕ} (y : Numbered (ruleCount bs) l k) where
     pub asked : Asked ws bs k (ruleCount bs)

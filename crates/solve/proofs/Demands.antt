@@ -12,7 +12,7 @@ use Rattle.rules.specs.Tight.{Tight, AllHold}
 use Rattle.rules.specs.Proper.{Proper}
 use Rattle.rules.specs.Tightening.{Widest, Conflict}
 use Rattle.checker.specs.declared.Checked.the-variants.{Refused}
-use Rattle.checker.specs.Lent.{wordCount, widthsOf, tableOf, rulesOf, loAt}
+use Rattle.problem.specs.Lent.{wordCount, widthsOf, tableOf, rulesOf, loAt}
 use Rattle.lists.proofs.Series.{length-series}
 use Rattle.tighten.specs.Memory.{Cleared}
 use Rattle.search.specs.Settings.{First, Without}
@@ -25,7 +25,7 @@ use Rattle.search.proofs.Problem.{outcome-right, gave-up-just, conflict-no-gues
 use Rattle.search.proofs.TheCeiling.{count-ceiling, ceiling-reached}
 use Rattle.solve.specs.declared.Solved.{Solved}
 use Rattle.solve.specs.declared.Solved.the-variants as answer
-use Rattle.solve.specs.Promise.{refusalHere, Given, Comes, Solving, refused, found-first, found-none, gave-up-at, Answered, reached-found, reached-none, not-reached}
+use Rattle.solve.specs.Promise.{solveRefusal, Comes, Solving, refused, found-first, found-none, gave-up-at, Answered, reached-found, reached-none, not-reached, SolveGiven}
 use Rattle.solve.proofs.Calling.{model-room, fine}
 use Rattle.solve.proofs.Once.{comes-once}
 
@@ -47,11 +47,11 @@ module _ {limit : ℕ} {ws bs m l : List ℕ} where
 
   -- a refusal is the first one of the list, with its place, and alters nothing
   pub refusal-exact : {n p : ℕ} {m′ l′ : List ℕ} → Solving limit ws bs m l (answer.Refused n p) m′ l′
-      → (refusalHere limit ws bs m l ≡ Refused n p) × (m′ ≡ m) × (l′ ≡ l)
+      → (solveRefusal limit ws bs m l ≡ Refused n p) × (m′ ≡ m) × (l′ ≡ l)
   refusal-exact (refused e) = (e, refl, refl)
 
   -- after every other answer work memory is all 0
-  pub work-cleared : {x : Solved} {m′ l′ : List ℕ} → Given limit ws bs m l → Solving limit ws bs m l x m′ l′ → Cleared l l′
+  pub work-cleared : {x : Solved} {m′ l′ : List ℕ} → SolveGiven limit ws bs m l → Solving limit ws bs m l x m′ l′ → Cleared l l′
   work-cleared g (refused e) = absurd (let z : _≡_ {A = ℕ} 0 1 = cc (g .passed, e) in omega arith)
   work-cleared g (found-first h s x c) = c
   work-cleared g (found-none h s c) = c
@@ -59,10 +59,10 @@ module _ {limit : ℕ} {ws bs m l : List ℕ} where
 
   -- ---- demand 2
 
-  proper : Given limit ws bs m l → Proper (widthsOf ws) (tableOf ws)
+  proper : SolveGiven limit ws bs m l → Proper (widthsOf ws) (tableOf ws)
   proper g = fine g .problem .table
 
-  no-guess : Given limit ws bs m l → Conflict (Tightly ws bs) (tableOf ws) → {o : Outcome} → Comes limit ws bs o → o ≡ none 0
+  no-guess : SolveGiven limit ws bs m l → Conflict (Tightly ws bs) (tableOf ws) → {o : Outcome} → Comes limit ws bs o → o ≡ none 0
   no-guess g k {o} s = conflict-no-guess (widthsOf ws) (rulesOf bs) (tableOf ws) (proper g) limit o k s
 
   -- the first numbers of the model are the first settings in word order
@@ -94,7 +94,7 @@ module _ {limit : ℕ} {ws bs m l : List ℕ} where
   model-kept (found-none h s c) i k = refl
   model-kept (gave-up-at h s c) i k = refl
 
-  outcome : {x : Solved} {m′ l′ : List ℕ} → Given limit ws bs m l → Solving limit ws bs m l x m′ l′
+  outcome : {x : Solved} {m′ l′ : List ℕ} → SolveGiven limit ws bs m l → Solving limit ws bs m l x m′ l′
       → (o : Outcome) × Comes limit ws bs o × (x ≡ answerTo limit o)
   outcome g (refused e) = absurd (let z : _≡_ {A = ℕ} 0 1 = cc (g .passed, e) in omega arith)
   outcome g (found-first h s x c) = (found _ _, s, refl)
@@ -103,7 +103,7 @@ module _ {limit : ℕ} {ws bs m l : List ℕ} where
 
   -- the answer by the problem's number G
   pub solve-answers : {x : Solved} {m′ l′ : List ℕ} (G : ℕ) → Guesses (Tightly ws bs) (Holding ws bs) (tableOf ws) G
-      → Given limit ws bs m l → Solving limit ws bs m l x m′ l′ → Answered limit G ws bs x
+      → SolveGiven limit ws bs m l → Solving limit ws bs m l x m′ l′ → Answered limit G ws bs x
   solve-answers {x} {m′} {l′} G q g z = go (decLe G limit)
     where
       said : (o : Outcome) → Comes limit ws bs o → x ≡ answerTo limit o
@@ -125,7 +125,7 @@ module _ {limit : ℕ} {ws bs m l : List ℕ} where
   -- ---- demand 3
 
   -- where the first tightening conflicts there is no guess
-  pub conflict-none : {x : Solved} {m′ l′ : List ℕ} → Given limit ws bs m l → Conflict (Tightly ws bs) (tableOf ws)
+  pub conflict-none : {x : Solved} {m′ l′ : List ℕ} → SolveGiven limit ws bs m l → Conflict (Tightly ws bs) (tableOf ws)
       → Solving limit ws bs m l x m′ l′ → x ≡ answer.Nothing 0
   conflict-none g k (refused e) = absurd (let z : _≡_ {A = ℕ} 0 1 = cc (g .passed, e) in omega arith)
   conflict-none g k (found-first h s x c) = absurd (found-not-none (no-guess g k s))

@@ -6,7 +6,7 @@ use native.Mathlib.Omega.{arith}
 use Rattle.checker.proofs.Firsts.{refused-not-ok}
 use Rattle.lists.specs.Lists.{at}
 use Rattle.rules.specs.Tight.{Tight}
-use Rattle.checker.specs.Lent.{widthsOf, rulesOf}
+use Rattle.problem.specs.Lent.{widthsOf, rulesOf}
 use Rattle.tighten.proofs.Once.{cleared-once}
 use Rattle.search.specs.Search.{Outcome}
 use Rattle.search.proofs.Outcomes.{found-not-none, found-not-gave-up, none-not-gave-up}

@@ -11,7 +11,7 @@ use Rattle.rules.specs.Kinds.{kindOf}
 use Rattle.rules.specs.Tight.{Tight}
 use Rattle.rules.proofs.Steps.{tightened}
 use Rattle.checker.specs.declared.Checked.the-variants.{Refused}
-use Rattle.checker.specs.Lent.{widthsOf, tableOf, rulesOf}
+use Rattle.problem.specs.Lent.{widthsOf, tableOf, rulesOf}
 use Rattle.checker.specs.Tests.{sized, areFields, isFitting}
 use Rattle.checker.specs.Refusal.{refusalWith, refusal, firstOf, wordRefusal, ruleRefusal}
 use Rattle.search.specs.Search.{Outcome, found}
@@ -20,11 +20,11 @@ use Rattle.search.proofs.Unique.{one-outcome}
 use Rattle.search.proofs.Solved.{solved, solved-right}
 use Rattle.solve.specs.declared.Solved.{Solved}
 use Rattle.solve.specs.declared.Solved.the-variants as answer
-use Rattle.solve.specs.Promise.{workLength, Given, Comes, Solving, refused, found-first, found-none, gave-up-at}
+use Rattle.solve.specs.Promise.{solveWork, Comes, Solving, refused, found-first, found-none, gave-up-at, SolveGiven}
 use Rattle.solve.proofs.Calling.{fine, nothing-refused}
 
 -- an outcome of a given problem is the one computed
-only : {limit : ℕ} {ws bs m l : List ℕ} → Given limit ws bs m l → (o : Outcome) → Comes limit ws bs o → o ≡ solved (widthsOf ws) (rulesOf bs) limit (tableOf ws)
+only : {limit : ℕ} {ws bs m l : List ℕ} → SolveGiven limit ws bs m l → (o : Outcome) → Comes limit ws bs o → o ≡ solved (widthsOf ws) (rulesOf bs) limit (tableOf ws)
 only {limit} {ws} {bs} g o s =
     one-outcome (Tight (widthsOf ws) (rulesOf bs)) limit s (solved-right (widthsOf ws) (rulesOf bs) (tableOf ws) (fine g .problem .table) limit)
 
@@ -33,8 +33,8 @@ only {limit} {ws} {bs} g o s =
 abbrev wordsB : List ℕ
 wordsB = 1 ∷ 0 ∷ 1 ∷ []
 
-module _ (l : List ℕ) (room : workLength ≤ length l) (m : ℕ) where
-  givenB : Given 1 wordsB [] (m ∷ []) l
+module _ (l : List ℕ) (room : solveWork ≤ length l) (m : ℕ) where
+  givenB : SolveGiven 1 wordsB [] (m ∷ []) l
   unfolding refusalWith refusal firstOf wordRefusal ruleRefusal sized areFields isFitting
   givenB = nothing-refused 1 wordsB [] (m ∷ []) l room (omega arith) refl
 
@@ -62,8 +62,8 @@ wordsG = 2 ∷ 0 ∷ 3 ∷ 2 ∷ 0 ∷ 3 ∷ 2 ∷ 3 ∷ 3 ∷ []
 abbrev rulesG : List ℕ
 rulesG = 6 ∷ 2 ∷ 0 ∷ 1 ∷ 0 ∷ 0 ∷ 12 ∷ 0 ∷ 1 ∷ 0 ∷ 0 ∷ 0 ∷ []
 
-module _ (l : List ℕ) (room : workLength ≤ length l) (m : List ℕ) (three : length m ≡ 3) where
-  givenG : Given 100 wordsG rulesG m l
+module _ (l : List ℕ) (room : solveWork ≤ length l) (m : List ℕ) (three : length m ≡ 3) where
+  givenG : SolveGiven 100 wordsG rulesG m l
   unfolding refusalWith refusal firstOf wordRefusal ruleRefusal sized areFields isFitting kindOf
   givenG = nothing-refused 100 wordsG rulesG m l room (omega arith) refl
 

@@ -7,8 +7,8 @@ use Rattle.lists.specs.Lists.{at}
 use Rattle.rules.specs.Tight.{Tight, AllHold}
 use Rattle.checker.specs.declared.Checked.{Checked}
 use Rattle.checker.specs.declared.Checked.the-variants.{Ok, Refused}
-use Rattle.checker.specs.Lent.{wordCount, widthsOf, tableOf, rulesOf}
-use Rattle.checker.specs.Refusal.{refusalWith, room}
+use Rattle.problem.specs.Lent.{wordCount, widthsOf, tableOf, rulesOf}
+use Rattle.checker.specs.Refusal.{refusalWith, withRoom}
 use Rattle.tighten.specs.Memory.{Cleared}
 use Rattle.search.specs.Settings.{First, Without}
 use Rattle.search.specs.Search.{Outcome, found, none, gave-up, Search}
@@ -16,16 +16,16 @@ use Rattle.solve.specs.declared.Solved.{Solved}
 use Rattle.solve.specs.declared.Solved.the-variants as answer
 
 -- the numbers of work memory that the call asks for
-abbrev pub workLength : ℕ
-workLength = 4608
+abbrev pub solveWork : ℕ
+solveWork = 4608
 
 -- refusal 1 for memory or a model that is too short, then the refusals of the problem and its limit
-unfoldable pub refusalHere : ℕ → List ℕ → List ℕ → List ℕ → List ℕ → Checked
-refusalHere limit ws bs model l = room workLength (length l) (room (wordCount ws) (length model) (refusalWith limit ws bs))
+unfoldable pub solveRefusal : ℕ → List ℕ → List ℕ → List ℕ → List ℕ → Checked
+solveRefusal limit ws bs model l = withRoom solveWork (length l) (wordCount ws) (length model) (refusalWith limit ws bs)
 
 -- nothing is refused
-pub record Given (limit : ℕ) (ws bs model l : List ℕ) : Type 0 where
-  pub passed : refusalHere limit ws bs model l ≡ Ok
+pub record SolveGiven (limit : ℕ) (ws bs model l : List ℕ) : Type 0 where
+  pub passed : solveRefusal limit ws bs model l ≡ Ok
 
 -- the first n numbers of v stand in the model m′, which else is as m
 pub record Stored (n : ℕ) (v m m′ : List ℕ) : Type 0 where
@@ -39,11 +39,11 @@ Comes limit ws bs o = Search (Tight (widthsOf ws) (rulesOf bs)) limit (tableOf w
 
 -- words ws, rules bs, a limit, a model m and work memory l were lent; the answer is x, and m′ and l′ stand in model and memory afterwards
 pub data Solving (limit : ℕ) (ws bs m l : List ℕ) : Solved → List ℕ → List ℕ → Type 0 where
-  refused : {n p : ℕ} → refusalHere limit ws bs m l ≡ Refused n p → Solving limit ws bs m l (answer.Refused n p) m l
-  found-first : {v m′ l′ : List ℕ} {g : ℕ} → Given limit ws bs m l → Comes limit ws bs (found v g) → Stored (wordCount ws) v m m′ → Cleared l l′
+  refused : {n p : ℕ} → solveRefusal limit ws bs m l ≡ Refused n p → Solving limit ws bs m l (answer.Refused n p) m l
+  found-first : {v m′ l′ : List ℕ} {g : ℕ} → SolveGiven limit ws bs m l → Comes limit ws bs (found v g) → Stored (wordCount ws) v m m′ → Cleared l l′
       → Solving limit ws bs m l (answer.Found g) m′ l′
-  found-none : {l′ : List ℕ} {g : ℕ} → Given limit ws bs m l → Comes limit ws bs (none g) → Cleared l l′ → Solving limit ws bs m l (answer.Nothing g) m l′
-  gave-up-at : {l′ : List ℕ} → Given limit ws bs m l → Comes limit ws bs gave-up → Cleared l l′ → Solving limit ws bs m l (answer.GaveUp limit) m l′
+  found-none : {l′ : List ℕ} {g : ℕ} → SolveGiven limit ws bs m l → Comes limit ws bs (none g) → Cleared l l′ → Solving limit ws bs m l (answer.Nothing g) m l′
+  gave-up-at : {l′ : List ℕ} → SolveGiven limit ws bs m l → Comes limit ws bs gave-up → Cleared l l′ → Solving limit ws bs m l (answer.GaveUp limit) m l′
 
 -- settings of the lent problem, the first of them; and that there are none
 abbrev pub FirstSettings : List ℕ → List ℕ → List ℕ → Type 0

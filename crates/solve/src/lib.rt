@@ -1,7 +1,7 @@
 // The call `solve`: the published search of a problem, its settings put into the model.
 ghost use Prim.Native.Nat.{_≤_};
 ghost use lib.ListN.{length};
-ghost use Rattle.solve.specs.Promise.{Stored, Given, Solving};
+ghost use Rattle.solve.specs.Promise.{Stored, Solving, SolveGiven};
 
 // The answer: the first settings are in the model; there are none; one more guess was needed than allowed; each with its count.
 // Or the number of the first refusal, and its place.
@@ -35,15 +35,15 @@ fn solve_proper(
     model: &mut [u64],
     work: &mut [u64],
 ) -> Solved
-    requires { ⌜ Given limit (now words) (now rules) (now model) (now work) ⌝ }
+    requires { ⌜ SolveGiven limit (now words) (now rules) (now model) (now work) ⌝ }
     ensures { λ r. ⌜ Solving limit (now (words .entry)) (now (rules .entry)) (now (model .entry)) (now (work .entry)) r (now (model .exit))
         (now (work .exit)) ⌝ }
 {
-    let c = rules.len() / checker::FIELDS;
+    let c = rules.len() / problem::FIELDS;
     tighten::buffer::list_all(work, c);
     match searcher::search_problem(work, words, rules, c, limit) {
         searcher::Answer::Found(count) => {
-            store(model, work, words.len() / checker::STRIDE);
+            store(model, work, words.len() / problem::STRIDE);
             tighten::buffer::clear(work);
             Solved::Found(count)
         }
@@ -68,7 +68,7 @@ pub fn solve(words: &[u64], rules: &[u8], limit: u32, model: &mut [u64], work: &
     if work.len() < WORK {
         return Solved::Refused(checker::SIZE, 0);
     }
-    if model.len() < words.len() / checker::STRIDE {
+    if model.len() < words.len() / problem::STRIDE {
         return Solved::Refused(checker::SIZE, 0);
     }
     let x = checker::check(words, rules, limit);

@@ -5,16 +5,18 @@ use mathlib.Core.List.{List}
 use Prim.Native.Nat.{ℕ, _≤_, _<_}
 use lib.Bits.{bitAnd, bitOr}
 use lib.ListN.{length}
+use Rattle.problem.specs.Reading.{ruleOf}
 use Rattle.words.specs.Bits.{_⊑_}
 use Rattle.words.specs.Table.{Table, Inside}
 use Rattle.lists.specs.Lists.{at}
 use Rattle.rules.specs.Kinds.{Place, R, A, B, S}
-use Rattle.rules.specs.Tight.{Rule, word, shape, span, TightAt}
+use Rattle.rules.specs.Tight.{word, shape, span, TightAt}
 use Rattle.rules.proofs.Held.{held-start}
 use Rattle.hull.specs.declared.Narrowed.{Narrowed}
-use Rattle.hull.specs.Narrowing.{loOf, hiOf, Narrows}
+use Rattle.problem.specs.Places.{loOf, hiOf}
+use Rattle.hull.specs.Narrowing.{Narrows}
 use Rattle.hull.proofs.Laws.{unfit-conflict, left-keeps, unchanged-tight}
-use Rattle.tighten.specs.declared.Numbers.{Numbers}
+use Rattle.problem.specs.declared.Fields.{Fields}
 use Rattle.tighten.specs.Memory.{tableIn, Outside}
 use Rattle.tighten.specs.Meeting.{State, metBy, metAll}
 use Rattle.tighten.specs.Stepping.{Stepped}
@@ -22,14 +24,10 @@ use Rattle.tighten.proofs.Stepping.{true-false}
 use Rattle.tighten.proofs.Memory.{low-at, high-at, outside-refl}
 use Rattle.tighten.proofs.Meeting.{Meeting, meet-step, met-back}
 
--- the rule of a rule's fields
-abbrev pub ruleOf : Numbers → Rule
-ruleOf x = record { kind = x .kind; r = x .r; a = x .a; b = x .b; s = x .s; k = x .k }
-
 abbrev pub begun : Narrowed → List ℕ → State
 begun o l = record { met = record { fit = o .fit; changed = false }; memory = l }
 
-module _ (w : List ℕ) (n : ℕ) (l : List ℕ) (x : Numbers) (o : Narrowed) (most : n ≤ 32) (room : 64 ≤ length l) (whole : Inside (tableIn n l) (tableIn n l))
+module _ (w : List ℕ) (n : ℕ) (l : List ℕ) (x : Fields) (o : Narrowed) (most : n ≤ 32) (room : 64 ≤ length l) (whole : Inside (tableIn n l) (tableIn n l))
     (below : (p : Place) → word (ruleOf x) p < n) (nar : Narrows (shape w (ruleOf x)) (span (tableIn n l) (ruleOf x)) o) where
   abbrev P : Table → Type 0
   P s = TightAt w s (ruleOf x)

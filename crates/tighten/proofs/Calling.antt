@@ -7,22 +7,22 @@ use native.Mathlib.Omega.{arith}
 use native.Mathlib.Decide.{ℕ-discrete}
 use lib.ListN.{length, set, length-set}
 use lib.Seq.{ext-getD, getD-set-same, getD-set-other}
+use Rattle.checker.specs.Promise.{Taken}
 use Rattle.lists.specs.Lists.{at, series}
 use Rattle.words.proofs.Tables.{table-path}
 use Rattle.rules.specs.Tight.{rule}
-use Rattle.checker.specs.Lent.{stride, wordCount, widthAt, loAt, hiAt, tableOf, ruleCount, ruleAt, rulesOf}
+use Rattle.problem.specs.Lent.{stride, wordCount, widthAt, loAt, hiAt, tableOf, ruleCount, ruleAt, rulesOf}
 use Rattle.checker.specs.declared.Checked.the-variants.{Ok, Refused}
 use Rattle.checker.specs.Demands.{Sized}
 use Rattle.checker.specs.Refusal.{refusal}
-use Rattle.checker.proofs.Right.{ok-fine, no-limit}
-use Rattle.checker.proofs.Rooms.{too-short, enough, has-room}
+use Rattle.checker.proofs.Rooms.{first-short, roomy, taken}
 use Rattle.lists.proofs.Series.{length-series, series-at, series-same}
-use Rattle.checker.proofs.Series.{rule-at}
+use Rattle.problem.proofs.Lents.{rule-at}
 use Rattle.tighten.specs.declared.Answer.{Answer}
 use Rattle.tighten.specs.declared.Answer.the-variants as answer
 use Rattle.tighten.specs.Memory.{tableIn, chosen, Loaded, Numbered, Cleared, putBounds}
 use Rattle.tighten.specs.Ready.{Ready, Listed, Settled}
-use Rattle.tighten.specs.Promise.{workLength, refusalHere, Given, WithBounds, Ended, ended-tight, ended-conflict, Tightening, refused, tight, conflict}
+use Rattle.tighten.specs.Promise.{tightenWork, tightenRefusal, WithBounds, Ended, ended-tight, ended-conflict, Tightening, refused, tight, conflict}
 use Rattle.tighten.proofs.Memory.{low-at, high-at, lows, highs}
 use Rattle.tighten.proofs.Buffers.{put-length}
 
@@ -47,7 +47,7 @@ module _ (bs : List ℕ) {l m : List ℕ} (y : Numbered (ruleCount bs) l m) wher
   pub all-listed : 64 + ruleCount bs ≤ length m → Listed bs m (ruleCount bs)
   all-listed room = record { room = room; each = λ j h. rw (y .each j h) h }
 
-module _ {ws bs k l m : List ℕ} (given : Given ws bs k) (x : Loaded (wordCount ws) ws k l) (y : Numbered (ruleCount bs) l m) where
+module _ {ws bs k l m : List ℕ} (given : Taken tightenWork (length k) ws bs) (x : Loaded (wordCount ws) ws k l) (y : Numbered (ruleCount bs) l m) where
   pub loaded-table : tableIn (wordCount ws) m ≡ tableOf ws
   loaded-table =
       let c = given .sized .words in
@@ -121,7 +121,7 @@ put-bounds l ws most room = record {
     same : wordCount (putBounds (wordCount ws) l ws) ≡ wordCount ws
     same = ap (λ n. n / stride) (put-length (wordCount ws) l ws)
 
-module _ {ws bs k l m n p : List ℕ} (given : Given ws bs k) (x : Loaded (wordCount ws) ws k l) (y : Numbered (ruleCount bs) l m) (z : Cleared n p) where
+module _ {ws bs k l m n p : List ℕ} (given : Taken tightenWork (length k) ws bs) (x : Loaded (wordCount ws) ws k l) (y : Numbered (ruleCount bs) l m) (z : Cleared n p) where
   -- the memory that is cleared is as long as the one that was lent
   kept : length n ≡ length m → Cleared k p
   kept e = record { size = z .size ∙ e ∙ y .size ∙ x .size; zeros = z .zeros }
@@ -140,29 +140,21 @@ abbrev pub answerOf : Bool → Answer
 answerOf true = answer.Tight
 answerOf false = answer.Conflict
 
-pub problem-given : {ws bs l : List ℕ} → workLength ≤ length l → refusal ws bs ≡ Ok → Given ws bs l
-problem-given {ws} {bs} h e =
-    let fine = ok-fine 0 ws bs (sym (no-limit ws bs) ∙ e) in
-    record { sized = fine .sized; problem = fine .problem; room = h }
-
 module _ {ws bs l : List ℕ} where
-  pub short-refused : length l < workLength → Tightening ws bs l (answer.Refused 1 0) ws l
-  unfolding refusalHere
-  short-refused h = refused (too-short workLength (length l) (refusal ws bs) h)
+  pub short-refused : length l < tightenWork → Tightening ws bs l (answer.Refused 1 0) ws l
+  unfolding tightenRefusal
+  short-refused h = refused (first-short tightenWork (length l) 0 0 (refusal ws bs) h)
 
-  pub problem-refused : {n p : ℕ} → workLength ≤ length l → refusal ws bs ≡ Refused n p → Tightening ws bs l (answer.Refused n p) ws l
-  unfolding refusalHere
-  problem-refused h e = refused (enough workLength (length l) (refusal ws bs) h ∙ e)
+  pub problem-refused : {n p : ℕ} → tightenWork ≤ length l → refusal ws bs ≡ Refused n p → Tightening ws bs l (answer.Refused n p) ws l
+  unfolding tightenRefusal
+  problem-refused h e = refused (roomy tightenWork (length l) 0 0 (refusal ws bs) h (omega arith) ∙ e)
 
-  pub ended-answer : {vs m : List ℕ} {r : Bool} → workLength ≤ length l → refusal ws bs ≡ Ok → Ended ws bs l r vs m → Tightening ws bs l (answerOf r) vs m
-  unfolding refusalHere
-  ended-answer h e (ended-tight x b c) = tight (enough workLength (length l) (refusal ws bs) h ∙ e) x b c
-  ended-answer h e (ended-conflict x c) = conflict (enough workLength (length l) (refusal ws bs) h ∙ e) x c
+  pub ended-answer : {vs m : List ℕ} {r : Bool} → tightenWork ≤ length l → refusal ws bs ≡ Ok → Ended ws bs l r vs m → Tightening ws bs l (answerOf r) vs m
+  unfolding tightenRefusal
+  ended-answer h e (ended-tight x b c) = tight (roomy tightenWork (length l) 0 0 (refusal ws bs) h (omega arith) ∙ e) x b c
+  ended-answer h e (ended-conflict x c) = conflict (roomy tightenWork (length l) 0 0 (refusal ws bs) h (omega arith) ∙ e) x c
 
 -- a problem that is not refused has sizes that fit
-pub here-sized : (ws bs l : List ℕ) → refusalHere ws bs l ≡ Ok → Sized ws bs
-unfolding refusalHere
-here-sized ws bs l e =
-    let (h, ok) = has-room workLength (length l) (refusal ws bs) e in
-    let g : Given ws bs l = problem-given h ok in
-    g .sized
+pub here-sized : (ws bs l : List ℕ) → tightenRefusal ws bs l ≡ Ok → Sized ws bs
+unfolding tightenRefusal
+here-sized ws bs l e = taken tightenWork (length l) ws bs e .sized

@@ -10,8 +10,8 @@ use Rattle.words.specs.Table.{Table}
 use Rattle.lists.specs.Lists.{at}
 use Rattle.rules.specs.Tight.{Tight}
 use Rattle.rules.proofs.OneWidest.{one-widest, not-both}
-use Rattle.checker.specs.Lent.{stride, widthAt, loAt, hiAt, widthsOf, tableOf, rulesOf}
-use Rattle.checker.proofs.Series.{width-at, lo-at, hi-at}
+use Rattle.problem.specs.Lent.{stride, widthAt, loAt, hiAt, widthsOf, tableOf, rulesOf}
+use Rattle.problem.proofs.Lents.{width-at, lo-at, hi-at}
 use Rattle.tighten.specs.declared.Answer.{Answer}
 use Rattle.tighten.specs.Memory.{Cleared}
 use Rattle.tighten.specs.Promise.{WithBounds, Tightening, refused, tight, conflict}

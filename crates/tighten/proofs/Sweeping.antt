@@ -14,9 +14,9 @@ use Rattle.rules.specs.Tight.{rule, none-rule, TightAt, Tight}
 use Rattle.rules.specs.Tightening.{Conflict}
 use Rattle.rules.proofs.Propers.{proper-inside, proper-narrower}
 use Rattle.rules.proofs.Held.{Held, held-start, held-trans, held-tight, held-conflict}
-use Rattle.checker.specs.Lent.{wordCount, widthsOf, ruleCount, ruleAt, rulesOf}
+use Rattle.problem.specs.Lent.{wordCount, widthsOf, ruleCount, ruleAt, rulesOf}
 use Rattle.lists.proofs.Series.{length-series, series-at}
-use Rattle.checker.proofs.Series.{rule-at}
+use Rattle.problem.proofs.Lents.{rule-at}
 use Rattle.tighten.specs.declared.Met.{Met}
 use Rattle.tighten.specs.Memory.{tableIn, chosen, Outside}
 use Rattle.tighten.specs.Stepping.{Stepped}

@@ -7,26 +7,13 @@ use lib.Bits.{bitAnd, bitOr}
 use lib.ListN.{set}
 use Rattle.words.specs.Bits.{under}
 use Rattle.lists.specs.Lists.{at}
-use Rattle.hull.specs.declared.Bounds.{Bounds}
-use Rattle.rules.specs.declared.Widths.{Widths}
-use Rattle.checker.specs.Lent.{stride, fields}
+use Rattle.problem.specs.declared.Bounds.{Bounds}
 use Rattle.tighten.specs.declared.Met.{Met}
-use Rattle.tighten.specs.declared.Numbers.{Numbers}
+use Rattle.problem.specs.declared.Fields.{Fields}
 
--- the fields of rule n
-unfoldable pub numbersAt : List ℕ → ℕ → Numbers
-numbersAt bs n = record {
-  kind = at bs (fields * n);
-  r = at bs (fields * n + 1);
-  a = at bs (fields * n + 2);
-  b = at bs (fields * n + 3);
-  s = at bs (fields * n + 4);
-  k = at bs (fields * n + 5);
-}
-
--- the bounds of the words at its places, and their widths
-unfoldable pub boundsAt : List ℕ → Numbers → Bounds
-boundsAt l x = record {
+-- the bounds of the words at a rule's places
+unfoldable pub workBounds : List ℕ → Fields → Bounds
+workBounds l x = record {
   rl = at l (x .r);
   rh = at l (x .r + 32);
   al = at l (x .a);
@@ -36,9 +23,6 @@ boundsAt l x = record {
   sl = at l (x .s);
   sh = at l (x .s + 32);
 }
-
-unfoldable pub widthsAt : List ℕ → Numbers → Widths
-widthsAt ws x = record { r = at ws (stride * x .r); a = at ws (stride * x .a); b = at ws (stride * x .b); s = at ws (stride * x .s) }
 
 -- work memory, and what meeting has come to
 pub record State : Type 0 where
@@ -58,5 +42,5 @@ metBy z i a b =
     (z .memory) i (bitOr (at (z .memory) i) a) (bitAnd (at (z .memory) (i + 32)) b)
 
 -- at all places of a rule
-unfoldable pub metAll : State → Numbers → Bounds → State
+unfoldable pub metAll : State → Fields → Bounds → State
 metAll z x t = metBy (metBy (metBy (metBy z (x .r) (t .rl) (t .rh)) (x .a) (t .al) (t .ah)) (x .b) (t .bl) (t .bh)) (x .s) (t .sl) (t .sh)

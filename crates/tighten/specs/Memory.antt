@@ -7,7 +7,7 @@ use lib.ListN.{length, take, drop, set}
 use Rattle.words.specs.Table.{Table}
 use Rattle.lists.specs.Lists.{at, series}
 use Rattle.rules.specs.Tight.{Rule, rule}
-use Rattle.checker.specs.Lent.{stride, loAt, hiAt}
+use Rattle.problem.specs.Lent.{stride, loAt, hiAt}
 
 -- the table of n words
 unfoldable pub tableIn : ℕ → List ℕ → Table

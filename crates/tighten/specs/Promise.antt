@@ -7,35 +7,27 @@ use lib.ListN.{length}
 use Rattle.words.specs.Table.{Table}
 use Rattle.rules.specs.Tight.{Tight}
 use Rattle.rules.specs.Tightening.{Widest, Conflict}
-use Rattle.rules.specs.ProperProblem.{ProperProblem}
 use Rattle.checker.specs.declared.Checked.{Checked}
 use Rattle.checker.specs.declared.Checked.the-variants.{Ok, Refused}
-use Rattle.checker.specs.Lent.{widthsOf, tableOf, rulesOf}
-use Rattle.checker.specs.Demands.{Sized}
-use Rattle.checker.specs.Refusal.{refusal, room}
+use Rattle.problem.specs.Lent.{widthsOf, tableOf, rulesOf}
+use Rattle.checker.specs.Refusal.{refusal, withRoom}
 use Rattle.tighten.specs.declared.Answer.{Answer}
 use Rattle.tighten.specs.declared.Answer.the-variants as answer
 use Rattle.tighten.specs.Memory.{Cleared}
 
 -- the numbers of work memory that the call asks for
-abbrev pub workLength : ℕ
-workLength = 320
+abbrev pub tightenWork : ℕ
+tightenWork = 320
 
 -- refusal 1 for work memory that is too short, then the refusals of the problem
-unfoldable pub refusalHere : List ℕ → List ℕ → List ℕ → Checked
-refusalHere ws bs l = room workLength (length l) (refusal ws bs)
+unfoldable pub tightenRefusal : List ℕ → List ℕ → List ℕ → Checked
+tightenRefusal ws bs l = withRoom tightenWork (length l) 0 0 (refusal ws bs)
 
 -- the words vs are the words ws with the bounds of table u
 pub record WithBounds (ws vs : List ℕ) (u : Table) : Type 0 where
   pub size : length vs ≡ length ws
   pub widths : widthsOf vs ≡ widthsOf ws
   pub table : tableOf vs ≡ u
-
--- what the call has found proper before it works
-pub record Given (ws bs l : List ℕ) : Type 0 where
-  pub sized : Sized ws bs
-  pub problem : ProperProblem (widthsOf ws) (tableOf ws) (rulesOf bs)
-  pub room : workLength ≤ length l
 
 -- what it comes to then
 pub data Ended (ws bs l : List ℕ) : Bool → List ℕ → List ℕ → Type 0 where
@@ -45,8 +37,8 @@ pub data Ended (ws bs l : List ℕ) : Bool → List ℕ → List ℕ → Type 0 
 
 -- words ws, rules bs and work memory l were lent; the answer is x, and vs and m stand in words and memory afterwards
 pub data Tightening (ws bs l : List ℕ) : Answer → List ℕ → List ℕ → Type 0 where
-  refused : {n p : ℕ} → refusalHere ws bs l ≡ Refused n p → Tightening ws bs l (answer.Refused n p) ws l
-  tight : {u : Table} {vs m : List ℕ} → refusalHere ws bs l ≡ Ok → Widest (Tight (widthsOf ws) (rulesOf bs)) (tableOf ws) u → WithBounds ws vs u → Cleared l m
+  refused : {n p : ℕ} → tightenRefusal ws bs l ≡ Refused n p → Tightening ws bs l (answer.Refused n p) ws l
+  tight : {u : Table} {vs m : List ℕ} → tightenRefusal ws bs l ≡ Ok → Widest (Tight (widthsOf ws) (rulesOf bs)) (tableOf ws) u → WithBounds ws vs u → Cleared l m
       → Tightening ws bs l answer.Tight vs m
-  conflict : {m : List ℕ} → refusalHere ws bs l ≡ Ok → Conflict (Tight (widthsOf ws) (rulesOf bs)) (tableOf ws) → Cleared l m
+  conflict : {m : List ℕ} → tightenRefusal ws bs l ≡ Ok → Conflict (Tight (widthsOf ws) (rulesOf bs)) (tableOf ws) → Cleared l m
       → Tightening ws bs l answer.Conflict ws m

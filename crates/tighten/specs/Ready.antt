@@ -9,7 +9,7 @@ use Rattle.rules.specs.Tight.{TightAt, Tight}
 use Rattle.rules.specs.Proper.{Proper}
 use Rattle.rules.specs.ProperProblem.{ProperProblem}
 use Rattle.rules.specs.Tightening.{Tightened, TIGHT, CONFLICT, Tightens}
-use Rattle.checker.specs.Lent.{wordCount, widthsOf, tableOf, ruleCount, ruleAt, rulesOf}
+use Rattle.problem.specs.Lent.{wordCount, widthsOf, tableOf, ruleCount, ruleAt, rulesOf}
 use Rattle.checker.specs.Demands.{Sized}
 use Rattle.tighten.specs.declared.Met.{Met}
 use Rattle.tighten.specs.Memory.{tableIn, chosen, Outside}

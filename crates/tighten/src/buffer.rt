@@ -2,7 +2,7 @@
 ghost use mathlib.Core.Path.{_≡_};
 ghost use Prim.Native.Nat.{_+_, _*_, _≤_};
 ghost use lib.ListN.{length};
-ghost use Rattle.checker.specs.Lent.{stride};
+ghost use Rattle.problem.specs.Lent.{stride};
 ghost use Rattle.tighten.specs.Memory.{Loaded, Numbered, Cleared, putBounds};
 
 // The bounds of n words, from words to memory.
@@ -12,8 +12,8 @@ pub fn load(work: &mut [u64], words: &[u64], n: usize)
 {
     let mut i = 0;
     while i < n {
-        work[i] = words[checker::STRIDE * i + 1];
-        work[i + 32] = words[checker::STRIDE * i + 2];
+        work[i] = words[problem::STRIDE * i + 1];
+        work[i + 32] = words[problem::STRIDE * i + 2];
         i += 1;
     }
 }
@@ -37,8 +37,8 @@ pub fn unload(words: &mut [u64], work: &[u64], n: usize)
 {
     let mut i = 0;
     while i < n {
-        words[checker::STRIDE * i + 1] = work[i];
-        words[checker::STRIDE * i + 2] = work[i + 32];
+        words[problem::STRIDE * i + 1] = work[i];
+        words[problem::STRIDE * i + 2] = work[i + 32];
         i += 1;
     }
 }

@@ -3,23 +3,15 @@
 pub mod buffer;
 mod rule;
 
-ghost use Rattle.tighten.specs.Promise.{Given, Ended, Tightening};
+ghost use lib.ListN.{length};
+ghost use Rattle.checker.specs.Promise.{Taken};
+ghost use Rattle.tighten.specs.Promise.{tightenWork, Ended, Tightening};
 ghost use Rattle.tighten.specs.Ready.{Ready, Listed, Swept, Settled};
 
 // What meeting bounds has come to: whether there may still be a fit, and whether a bound changed.
 pub struct Met {
     pub fit: bool,
     pub changed: bool,
-}
-
-// The fields of a rule.
-pub struct Numbers {
-    pub kind: usize,
-    pub r: usize,
-    pub a: usize,
-    pub b: usize,
-    pub s: usize,
-    pub k: u64,
 }
 
 // The rules that are listed, each applied once, until one has no fit.
@@ -72,11 +64,11 @@ const WORK: usize = 320;
 
 // The table in memory tightened for all rules, its bounds put into words where a tight one is left, and the memory cleared.
 fn tighten_proper(words: &mut [u64], rules: &[u8], work: &mut [u64]) -> bool
-    requires { ⌜ Given (now words) (now rules) (now work) ⌝ }
+    requires { ⌜ Taken tightenWork (length (now work)) (now words) (now rules) ⌝ }
     ensures { λ r. ⌜ Ended (now (words .entry)) (now (rules .entry)) (now (work .entry)) r (now (words .exit)) (now (work .exit)) ⌝ }
 {
-    let n = words.len() / checker::STRIDE;
-    let c = rules.len() / checker::FIELDS;
+    let n = words.len() / problem::STRIDE;
+    let c = rules.len() / problem::FIELDS;
     buffer::load(work, words, n);
     buffer::list_all(work, c);
     if settle(work, words, rules, c) {

@@ -1,45 +1,24 @@
 // One rule applied to the table in work memory.
 use crate::Met;
-use crate::Numbers;
+use problem::Bounds;
+use problem::Fields;
 ghost use mathlib.Core.Path.{_≡_};
 ghost use Prim.Native.Nat.{_+_, _*_, _<_, _≤_};
 ghost use lib.ListN.{length};
-ghost use Rattle.checker.specs.Lent.{stride, fields, ruleCount};
-ghost use Rattle.tighten.specs.Meeting.{metBy, metAll, numbersAt, boundsAt, widthsAt};
+ghost use Rattle.problem.specs.Lent.{ruleCount};
+ghost use Rattle.tighten.specs.Meeting.{metBy, metAll, workBounds};
 ghost use Rattle.tighten.specs.Ready.{Ready, Applied};
 
-fn wide(x: u8) -> usize
-    ensures { λ r. ⌜ (r ≡ x) × (r < 256) ⌝ }
-{
-    x as usize
-}
-
-// The fields of rule n.
-fn numbers_at(rules: &[u8], n: usize) -> Numbers
-    requires { ⌜ fields * n + 5 < length (now rules) ⌝ }
-    ensures { λ r. ⌜ r ≡ numbersAt (now (rules .entry)) n ⌝ }
-{
-    let at = checker::FIELDS * n;
-    Numbers {
-        kind: wide(rules[at]),
-        r: wide(rules[at + 1]),
-        a: wide(rules[at + 2]),
-        b: wide(rules[at + 3]),
-        s: wide(rules[at + 4]),
-        k: wide(rules[at + 5]) as u64,
-    }
-}
-
 // The bounds of the words that stand at a rule's places.
-fn bounds_at(work: &[u64], x: Numbers) -> hull::Bounds
+fn bounds_at(work: &[u64], x: Fields) -> Bounds
     requires { ⌜ (x .r < 32) × (x .a < 32) × (x .b < 32) × (x .s < 32) × (64 ≤ length (now work)) ⌝ }
-    ensures { λ r. ⌜ r ≡ boundsAt (now (work .entry)) x ⌝ }
+    ensures { λ r. ⌜ r ≡ workBounds (now (work .entry)) x ⌝ }
 {
     let r = x.r;
     let a = x.a;
     let b = x.b;
     let s = x.s;
-    hull::Bounds {
+    Bounds {
         rl: work[r],
         rh: work[r + 32],
         al: work[a],
@@ -48,24 +27,6 @@ fn bounds_at(work: &[u64], x: Numbers) -> hull::Bounds
         bh: work[b + 32],
         sl: work[s],
         sh: work[s + 32],
-    }
-}
-
-// The widths of these words.
-fn widths_at(words: &[u64], x: Numbers) -> rules::Widths
-    requires { ⌜ (stride * x .r < length (now words)) × (stride * x .a < length (now words)) × (stride * x .b < length (now words))
-        × (stride * x .s < length (now words)) × (x .r < 32) × (x .a < 32) × (x .b < 32) × (x .s < 32) ⌝ }
-    ensures { λ r. ⌜ r ≡ widthsAt (now (words .entry)) x ⌝ }
-{
-    let r = checker::STRIDE * x.r;
-    let a = checker::STRIDE * x.a;
-    let b = checker::STRIDE * x.b;
-    let s = checker::STRIDE * x.s;
-    rules::Widths {
-        r: words[r],
-        a: words[a],
-        b: words[b],
-        s: words[s],
     }
 }
 
@@ -94,7 +55,7 @@ fn meet(work: &mut [u64], m: Met, i: usize, l: u64, h: u64) -> Met
 }
 
 // The bounds at all places of a rule met, each with its own.
-fn meet_all(work: &mut [u64], m: Met, x: Numbers, t: hull::Bounds) -> Met
+fn meet_all(work: &mut [u64], m: Met, x: Fields, t: Bounds) -> Met
     requires { ⌜ (x .r < 32) × (x .a < 32) × (x .b < 32) × (x .s < 32) × (64 ≤ length (now work)) ⌝ }
     ensures { λ r. ⌜ record { met = r; memory = now (work .exit) } ≡ metAll (record { met = m; memory = now (work .entry) }) x t ⌝ }
 {
@@ -109,8 +70,8 @@ pub fn apply(work: &mut [u64], words: &[u64], rules: &[u8], j: usize) -> Met
     requires { ⌜ Ready (now words) (now rules) (now work) × (j < ruleCount (now rules)) ⌝ }
     ensures { λ r. ⌜ Applied (now (words .entry)) (now (rules .entry)) j (now (work .entry)) (now (work .exit)) r ⌝ }
 {
-    let x = numbers_at(rules, j);
-    let w = widths_at(words, x);
+    let x = problem::fields_of(rules, j);
+    let w = problem::widths_of(words, x);
     let t = bounds_at(work, x);
     let o = hull::narrow(x.kind, x.k, w, t);
     let m = Met {

@@ -9,7 +9,7 @@ use lib.Dec.{leb}
 use lib.ListN.{length}
 use borrow.Author.Tests.{leb-true, leb-false}
 use Rattle.checker.specs.declared.Checked.{Checked}
-use Rattle.checker.specs.Lent.{wordCount, ruleCount}
+use Rattle.problem.specs.Lent.{wordCount, ruleCount}
 use Rattle.checker.specs.Demands.{Sized}
 use Rattle.checker.specs.Tests.{sized}
 use Rattle.checker.specs.Refusal.{refusalWith}

@@ -8,7 +8,7 @@ use native.Mathlib.Omega.{arith}
 use lib.ListN.{length, take, drop, set, length-append, List·getD-append}
 use lib.Seq.{drop-cons, getD-append-add}
 use Rattle.lists.specs.Lists.{at, part, put, zeros}
-use Rattle.checker.specs.Lent.{ruleAt}
+use Rattle.problem.specs.Lent.{ruleAt}
 use Rattle.blocks.specs.Bytes.{le}
 use Rattle.blocks.specs.Records.{ruleRecord}
 use Rattle.blocks.specs.Block.{sum}

@@ -6,7 +6,7 @@ use native.Mathlib.Omega.{arith}
 use lib.ListN.{length, length-append}
 use lib.Seq.{drop-drop}
 use borrow.Rule.Slice.PartMut.{putMid}
-use Rattle.checker.specs.Lent.{wordCount, ruleCount}
+use Rattle.problem.specs.Lent.{wordCount, ruleCount}
 use Rattle.blocks.specs.Bytes.{le}
 use Rattle.lists.specs.Lists.{put, flat}
 use Rattle.blocks.specs.Records.{wordRecord, ruleRecord}

@@ -4,7 +4,7 @@ use mathlib.Core.List.{List}
 use Prim.Native.Nat.{ℕ, _+_, _*_, _/_, _<_}
 use lib.Dec.{leb}
 use Rattle.lists.specs.Lists.{at}
-use Rattle.checker.specs.Lent.{stride, fields, wordCount, widthAt, ruleCount}
+use Rattle.problem.specs.Lent.{stride, fields, wordCount, widthAt, ruleCount}
 use Rattle.blocks.specs.Bytes.{le}
 use Rattle.blocks.specs.Records.{wordRecord, ruleRecord}
 use Rattle.blocks.specs.Edition.{edition1}

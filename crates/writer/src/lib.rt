@@ -10,7 +10,7 @@ use checker::Checked;
 ghost use mathlib.Core.Path.{_≡_};
 ghost use Prim.Native.Nat.{_+_, _*_, _≤_, min, _-_};
 ghost use lib.ListN.{length};
-ghost use Rattle.checker.specs.Lent.{wordCount, ruleCount};
+ghost use Rattle.problem.specs.Lent.{wordCount, ruleCount};
 ghost use Rattle.lists.specs.Lists.{put};
 ghost use Rattle.blocks.specs.Edition.{edition1};
 ghost use Rattle.blocks.specs.Written.{wordBlocks, ruleBlocks, encode, Storable};
@@ -35,7 +35,7 @@ fn write_words(file: &mut [u8], words: &[u64])
         now (file .exit) ≡ put (now (file .entry)) 0 (wordsUpTo (now (words .entry)) (wordBlocks edition1 (wordCount (now (words .entry)))))
         ⌝ }
 {
-    let n = words.len() / checker::STRIDE;
+    let n = words.len() / problem::STRIDE;
     let k = (n + 20) / WORDS;
     let mut q = 0;
     while q < k {
@@ -56,7 +56,7 @@ fn write_rules(file: &mut [u8], rules: &[u8], before: usize)
         ≡ put (now (file .entry)) (512 * before) (rulesUpTo (now (rules .entry)) before (ruleBlocks edition1 (ruleCount (now (rules .entry)))))
         ⌝ }
 {
-    let m = rules.len() / checker::FIELDS;
+    let m = rules.len() / problem::FIELDS;
     let k = (m + 62) / RULES;
     let mut q = 0;
     while q < k {
@@ -78,8 +78,8 @@ fn write_all(file: &mut [u8], words: &[u64], rules: &[u8], limit: u32) -> usize
         × (now (file .exit) ≡ put (now (file .entry)) 0 (encode edition1 limit (now (words .entry)) (now (rules .entry))))
         ⌝ }
 {
-    let before = (words.len() / checker::STRIDE + 20) / WORDS;
-    let k = before + (rules.len() / checker::FIELDS + 62) / RULES;
+    let before = (words.len() / problem::STRIDE + 20) / WORDS;
+    let k = before + (rules.len() / problem::FIELDS + 62) / RULES;
     let at = 512 * k;
     let e = at + 512;
     write_words(file, words);
@@ -98,7 +98,7 @@ fn has_room(words: usize, rules: usize, file: usize) -> bool
     if rules > 1512 {
         return false;
     }
-    512 * ((words / checker::STRIDE + 20) / WORDS + (rules / checker::FIELDS + 62) / RULES + 1)
+    512 * ((words / problem::STRIDE + 20) / WORDS + (rules / problem::FIELDS + 62) / RULES + 1)
         <= file
 }
 

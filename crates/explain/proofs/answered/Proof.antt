@@ -6,7 +6,7 @@ use native.Mathlib.Omega.{arith}
 use denote.Enum.Declared.{tagOf}
 use types.Run.{OneOf}
 use borrow.Author.Needs.{needs}
-use Rattle.hull.specs.Narrowing.{spanOf}
+use Rattle.problem.specs.Places.{spanOf}
 use Rattle.reasons.specs.Says.{Says}
 use Rattle.explain.specs.declared.Said.{Said}
 use Rattle.explain.specs.declared.Said.the-variants as said

@@ -1,7 +1,8 @@
 -- `explain::explain` meets its contract.
 use mathlib.Core.Path.{sym, _∙_}
 use borrow.Author.Needs.{needs}
-use Rattle.explain.proofs.Calling.{short-refused, problem-refused, problem-taken, problem-judged}
+use Rattle.explain.proofs.Calling.{short-refused, problem-refused, problem-judged}
+use Rattle.checker.proofs.Rooms.{problem-taken}
 use Rattle.explain.proofs.explain.Statement.{statement}
 use Rattle.explain.proofs.explain.Tie as tie
 
@@ -26,7 +27,7 @@ explain-proper-requires : tie.Need-explain-proper-requires
 explain-proper-requires c κs =
     let e = c .before in
     let f = e .before .before in
-    problem-taken _ _ _ (f .before .if1 .left) (sym (f .first-refusal .ensures) ∙ e .enum-told .given .1)
+    problem-taken _ _ (f .before .if1 .left) (sym (f .first-refusal .ensures) ∙ e .enum-told .given .1)
 
 same-length : tie.Need-same-length
 same-length c = search needs

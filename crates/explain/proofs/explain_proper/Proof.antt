@@ -1,28 +1,41 @@
 -- `explain::explain_proper` meets its contract.
+use mathlib.Core.Path.{ap, _∙_}
 use borrow.Author.Tests.{not-true, not-false}
 use borrow.Author.Needs.{needs}
 use Rattle.lists.proofs.Deciding.{decided, refuted}
-use Rattle.explain.proofs.Reading.{Read, is-kind, is-legal, open-refused, open-asks, open-judged}
+use Rattle.problem.specs.Reading.{boundsAt}
+use Rattle.explain.proofs.Reading.{Read, question-read, is-kind, is-legal, open-refused, open-asks, open-judged}
 use Rattle.explain.proofs.Calling.{rule-refused}
 use Rattle.explain.proofs.explain_proper.Statement.{statement}
 use Rattle.explain.proofs.explain_proper.Tie as tie
 
 -- question and bounds were read
-read : (c : tie.After-bounds-of) → (let s = c .before .before .before .before .before .before in
+read : (c : tie.After-widths-of) → (let f = c .before .before in let s = f .before .before .before .before .before in
     Read (s .args .words .now) (s .args .rules .now) (s .args .list .now) (s .args .rule) (s .args .place) (s .args .bit)
-    (c .before .question .result) (c .bounds-of .result))
+    (record { kind = f .fields-of .result .kind; k = f .fields-of .result .k; w = c .widths-of .result; place = s .args .place; bit = s .args .bit })
+    (c .before .bounds-of .result))
 read c =
-    let e = c .before .before in
-    record { taken = e .before .before .before .before .pre; there = e .if1 .left; question = c .before .question .ensures; bounds = c .bounds-of .ensures }
+    let t = c .before in
+    let f = t .before in
+    let e = f .before in
+    record {
+      taken = e .before .before .before .before .pre;
+      there = e .if1 .left;
+      question = question-read _ _ _ _ _ (f .fields-of .result) _ (f .fields-of .ensures .0) (c .widths-of .ensures);
+      bounds = t .bounds-of .ensures ∙ ap (boundsAt _) (f .fields-of .ensures .0);
+    }
 
 returns : tie.Need-returns
 returns c = rule-refused _ _ _ (c .if1 .taken)
 
-question-requires : tie.Need-question-requires
-question-requires c κs = search needs
+fields-of-requires : tie.Need-fields-of-requires
+fields-of-requires c κs = search needs
 
 bounds-of-requires : tie.Need-bounds-of-requires
 bounds-of-requires c κs = search needs
+
+widths-of-requires : tie.Need-widths-of-requires
+widths-of-requires c κs = search needs
 
 is-open-requires : tie.Need-is-open-requires
 is-open-requires c κs = (is-kind (read c), is-legal (read c))
@@ -53,8 +66,9 @@ explain-proper-spec =
     tie.close
     (tie.spec
     returns
-    question-requires
+    fields-of-requires
     bounds-of-requires
+    widths-of-requires
     is-open-requires
     returns-2
     answered-requires

@@ -5,7 +5,7 @@ use borrow.Author.Needs.{needs}
 use borrow.Fn.Kinds.{In}
 use borrow.Fn.PlainCycle.{Measures, is, falls, and}
 use Rattle.words.specs.Count.{openBelow}
-use Rattle.checker.specs.Lent.{wordCount}
+use Rattle.problem.specs.Lent.{wordCount}
 use Rattle.tighten.specs.Memory.{tableIn}
 use Rattle.trail.proofs.rollback.Reads as rollback-reads
 use Rattle.searcher.proofs.Searches.{first-begun, first-falls, first-found, first-gave-up, second-copied, second-begun, second-falls, second-end}

@@ -2,7 +2,7 @@
 use mathlib.Core.Path.{_∙_}
 use borrow.Author.Tests.{not-true, not-false}
 use Rattle.words.specs.Count.{openBelow}
-use Rattle.checker.specs.Lent.{wordCount}
+use Rattle.problem.specs.Lent.{wordCount}
 use Rattle.tighten.specs.Memory.{tableIn}
 use Rattle.tighten.proofs.Sweeping.{Settling, settling-start, settling-ready, settling-listed, settling-none, settling-step, settling-end}
 use Rattle.tighten.proofs.settle.Statement.{statement}

@@ -1,6 +1,7 @@
 -- `tighten::tighten` meets its contract.
 use mathlib.Core.Path.{sym, _∙_}
-use Rattle.tighten.proofs.Calling.{short-refused, problem-refused, problem-given, ended-answer}
+use Rattle.tighten.proofs.Calling.{short-refused, problem-refused, ended-answer}
+use Rattle.checker.proofs.Rooms.{problem-taken}
 use borrow.Author.Needs.{needs}
 use Rattle.tighten.proofs.tighten.Statement.{statement}
 use Rattle.tighten.proofs.tighten.Tie as tie
@@ -31,7 +32,7 @@ tighten-proper-requires c κs =
     let e = c .before .before in
     let f = e .before .before in
     let s = f .before .before in
-    problem-given (s .if1 .left) (sym (f .first-refusal .ensures) ∙ e .enum-told .given .1)
+    problem-taken _ _ (s .if1 .left) (sym (f .first-refusal .ensures) ∙ e .enum-told .given .1)
 
 same-length-2 : tie.Need-same-length-2
 same-length-2 c = search needs

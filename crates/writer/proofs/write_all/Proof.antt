@@ -4,7 +4,7 @@ use Prim.Native.Nat.{_+_, _*_, _/_, _≤_}
 use native.Mathlib.Omega.{arith}
 use borrow.Author.Needs.{needs}
 use lib.ListN.{length}
-use Rattle.checker.specs.Lent.{wordCount, ruleCount}
+use Rattle.problem.specs.Lent.{wordCount, ruleCount}
 use Rattle.blocks.specs.Edition.{edition1}
 use Rattle.blocks.specs.Written.{blocksFor, wordBlocks, ruleBlocks}
 use Rattle.blocks.proofs.ReadBack.{length-encode}

@@ -1,6 +1,5 @@
 -- `checker::rule::is_fitting` meets its contract.
 use mathlib.Core.Path.{_∙_}
-use Rattle.checker.specs.Lent.{ruleAt}
 use Rattle.checker.proofs.RowNumbers.{fitting}
 use borrow.Author.Needs.{needs}
 use Rattle.checker.proofs.rule.is_fitting.Statement.{statement}
@@ -12,20 +11,14 @@ widths-of-requires c κs = search needs
 row-requires : tie.Need-row-requires
 row-requires c κs = search needs
 
-field-requires : tie.Need-field-requires
-field-requires c κs = search needs
-
 fits-requires : tie.Need-fits-requires
 fits-requires c κs = search needs
 
 returns : tie.Need-returns
 returns c =
-    let w = c .before .before .before in
-    let a = w .before .before .before .args in
-    c .fits2 .ensures
-    ∙ fitting (a .words .now) (ruleAt (a .rules .now) (a .n)) (a .kind) _ _ _
-    (w .before .before .before .pre .1) (c .before .before .row .ensures) (c .before .field .ensures .0) (w .widths-of .ensures)
+    let w = c .before .before in
+    let a = w .before .before .args in
+    c .fits2 .ensures ∙ fitting (a .words .now) (a .x) _ _ (c .before .row .ensures) (w .widths-of .ensures)
 
 pub is-fitting-spec : {M : Type 1} → statement M
-is-fitting-spec =
-    tie.close (tie.spec widths-of-requires row-requires field-requires fits-requires returns)
+is-fitting-spec = tie.close (tie.spec widths-of-requires row-requires fits-requires returns)

@@ -4,7 +4,7 @@ use native.Mathlib.Omega.{arith}
 use borrow.Author.Needs.{needs}
 use borrow.Author.Tests.{not-true, not-false}
 use Rattle.rules.specs.Kinds.{kindOf}
-use Rattle.hull.specs.Narrowing.{spanOf}
+use Rattle.problem.specs.Places.{spanOf}
 use Rattle.reasons.specs.Reason.{fixedFrom}
 use Rattle.explain.specs.Places.{placeOf}
 use Rattle.explain.specs.Dropping.{Gone}

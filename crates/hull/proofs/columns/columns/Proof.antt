@@ -2,9 +2,10 @@
 use mathlib.Core.Path.{_≡_, _∙_}
 use mathlib.Core.Bool.{Bool, true, false, _&&_}
 use Prim.Native.Nat.{ℕ}
-use lib.Dec.{ltb}
 use borrow.Author.Needs.{needs}
-use Rattle.hull.specs.declared.Bounds.{Bounds}
+use Rattle.rules.specs.Kinds.{R, kindOf}
+use Rattle.rules.specs.Rows.{uses}
+use Rattle.problem.specs.declared.Bounds.{Bounds}
 use Rattle.hull.specs.declared.Narrowed.{Narrowed}
 use Rattle.hull.specs.Runs.{pick}
 use Rattle.hull.specs.ByColumns.{framedOf, sweptOf, fixedIn, valueOf, settled, columnsOf}
@@ -12,7 +13,7 @@ use Rattle.hull.proofs.columns.columns.Statement.{statement}
 use Rattle.hull.proofs.columns.columns.Tie as tie
 
 -- the code's frame and its test, put into the definition
-told : (κ n : ℕ) (t f : Bounds) (b x : Bool) (r : Narrowed) → f ≡ framedOf κ t → b ≡ (ltb κ 12 && fixedIn f) → b ≡ x
+told : (κ n : ℕ) (t f : Bounds) (b x : Bool) (r : Narrowed) → f ≡ framedOf κ t → b ≡ (uses (kindOf κ) R && fixedIn f) → b ≡ x
     → r ≡ pick x (sweptOf κ n f t) (settled (valueOf κ n f) t) → r ≡ columnsOf κ n t
 unfolding columnsOf
 told κ n t f b x r e d h q = q ∙ rw (← e, ← d, h)

@@ -4,6 +4,12 @@ use Rattle.hull.specs.ByColumns.{framedOf}
 use Rattle.hull.proofs.columns.framed.Statement.{statement}
 use Rattle.hull.proofs.columns.framed.Tie as tie
 
+computes-requires : tie.Need-computes-requires
+computes-requires c κs = search needs
+
+chooses-requires : tie.Need-chooses-requires
+chooses-requires c κs = search needs
+
 one-if-requires : tie.Need-one-if-requires
 one-if-requires c κs = search needs
 
@@ -21,12 +27,28 @@ pick-of-requires-2 c κs = search needs
 
 returns : tie.Need-returns
 unfolding framedOf
-returns c = cc
+returns c =
+    let p = c .before in
+    let k = p .before in
+    let j = k .before in
+    let o = j .before in
+    let s = o .before in
+    rw (
+      c .pick-of2 .ensures,
+      p .pick-of .ensures,
+      k .keep2 .ensures,
+      j .keep .ensures,
+      o .one-if .ensures,
+      s .chooses .ensures,
+      s .before .computes .ensures,
+    )
 
 pub framed-spec : {M : Type 1} → statement M
 framed-spec =
     tie.close
     (tie.spec
+    computes-requires
+    chooses-requires
     one-if-requires
     keep-requires
     keep-requires-2

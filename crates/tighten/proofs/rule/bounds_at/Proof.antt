@@ -1,6 +1,6 @@
 -- `tighten::rule::bounds_at` meets its contract.
 use mathlib.Core.Path.{refl}
-use Rattle.tighten.specs.Meeting.{boundsAt}
+use Rattle.tighten.specs.Meeting.{workBounds}
 use borrow.Author.Needs.{needs}
 use Rattle.tighten.proofs.rule.bounds_at.Statement.{statement}
 use Rattle.tighten.proofs.rule.bounds_at.Tie as tie
@@ -66,7 +66,7 @@ shared-slice-read-t34 : tie.Need-shared-slice-read-t34
 shared-slice-read-t34 c = search needs
 
 returns : tie.Need-returns
-unfolding boundsAt
+unfolding workBounds
 returns c = refl
 
 pub bounds-at-spec : {M : Type 1} → statement M

@@ -1,7 +1,7 @@
--- `checker::rows::is_sum` meets its contract.
+-- `checker::fit::is_sum` meets its contract.
 use Rattle.checker.proofs.RowNumbers.{sum-test, no-sum}
-use Rattle.checker.proofs.rows.is_sum.Statement.{statement}
-use Rattle.checker.proofs.rows.is_sum.Tie as tie
+use Rattle.checker.proofs.fit.is_sum.Statement.{statement}
+use Rattle.checker.proofs.fit.is_sum.Tie as tie
 
 returns : tie.Need-returns
 returns c = no-sum _ _ _ (c .if1 .taken)

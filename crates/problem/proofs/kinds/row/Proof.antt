@@ -1,4 +1,4 @@
--- `checker::rows::row`: the constant table has what the rows of "Rules" say, by one test of all its entries.
+-- `problem::kinds::row`: the constant table has what the rows of "Rules" say, by one test of all its entries.
 use mathlib.Core.Path.{_≡_, subst}
 use mathlib.Core.Bool.{Bool, _&&_}
 use mathlib.Core.List.{List, [], _∷_}
@@ -10,11 +10,11 @@ use borrow.Author.Needs.{needs}
 use Rattle.rules.specs.Kinds.{kindOf}
 use Rattle.rules.specs.ProperProblem.{KindNumber}
 use Rattle.lists.proofs.Bools.{both}
-use Rattle.checker.specs.Lent.{fields}
-use Rattle.checker.specs.Rows.{entry}
+use Rattle.problem.specs.Lent.{fields}
+use Rattle.problem.specs.Rows.{entry}
 use Rattle.lists.proofs.Entries.{every, entries}
-use Rattle.checker.proofs.rows.row.Statement.{statement}
-use Rattle.checker.proofs.rows.row.Tie as tie
+use Rattle.problem.proofs.kinds.row.Statement.{statement}
+use Rattle.problem.proofs.kinds.row.Tie as tie
 
 rows : List (List ℕ)
 rows =

@@ -1,12 +1,9 @@
--- `checker::rule::width_of` meets its contract.
+-- `problem::number_at` meets its contract.
 use mathlib.Core.Path.{sym}
 use lib.ListN.{List·getD-eq-default}
 use borrow.Author.Needs.{needs}
-use Rattle.checker.proofs.rule.width_of.Statement.{statement}
-use Rattle.checker.proofs.rule.width_of.Tie as tie
-
-mul-at : tie.Need-mul-at
-mul-at c = search needs
+use Rattle.problem.proofs.number_at.Statement.{statement}
+use Rattle.problem.proofs.number_at.Tie as tie
 
 mul-result : tie.Need-mul-result
 mul-result c = search needs
@@ -20,5 +17,5 @@ returns c = search needs
 returns-2 : tie.Need-returns-2
 returns-2 c = sym (List·getD-eq-default (c .before .args .words .now) 0 (c .if1 .left))
 
-pub width-of-spec : {M : Type 1} → statement M
-width-of-spec = tie.close (tie.spec mul-at mul-result shared-slice-read-result returns returns-2)
+pub number-at-spec : {M : Type 1} → statement M
+number-at-spec = tie.close (tie.spec mul-result shared-slice-read-result returns returns-2)

@@ -1,7 +1,7 @@
--- `checker::rows::is_part` meets its contract.
+-- `checker::fit::is_part` meets its contract.
 use Rattle.checker.proofs.RowNumbers.{part-test, no-part}
-use Rattle.checker.proofs.rows.is_part.Statement.{statement}
-use Rattle.checker.proofs.rows.is_part.Tie as tie
+use Rattle.checker.proofs.fit.is_part.Statement.{statement}
+use Rattle.checker.proofs.fit.is_part.Tie as tie
 
 returns : tie.Need-returns
 returns c = no-part _ _ _ (c .if1 .taken)

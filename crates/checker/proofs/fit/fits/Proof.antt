@@ -1,9 +1,9 @@
--- `checker::rows::fits` meets its contract.
-use Rattle.checker.specs.Rows.{classOf}
+-- `checker::fit::fits` meets its contract.
+use Rattle.problem.specs.Rows.{classOf}
 use Rattle.checker.proofs.RowNumbers.{last-class}
 use borrow.Author.Needs.{needs}
-use Rattle.checker.proofs.rows.fits.Statement.{statement}
-use Rattle.checker.proofs.rows.fits.Tie as tie
+use Rattle.checker.proofs.fit.fits.Statement.{statement}
+use Rattle.checker.proofs.fit.fits.Tie as tie
 
 is-part-requires : tie.Need-is-part-requires
 is-part-requires c κs = search needs

@@ -8,7 +8,7 @@ use lib.ListN.{length, List·getD-eq-default}
 use Rattle.lists.proofs.Series.{length-series, series-at}
 use Rattle.lists.specs.Lists.{at, series}
 use Rattle.rules.specs.Tight.{rule, none-rule}
-use Rattle.checker.specs.Lent.{stride, wordCount, widthAt, loAt, hiAt, ruleCount, ruleAt, widthsOf, tableOf, rulesOf}
+use Rattle.problem.specs.Lent.{stride, wordCount, widthAt, loAt, hiAt, ruleCount, ruleAt, widthsOf, tableOf, rulesOf}
 
 -- one number of each word; past the last word stands 0
 words-at : (ws : List ℕ) (g : ℕ → ℕ) → length ws % stride ≡ 0 → ((i : ℕ) → stride * i ≤ g i) → (i : ℕ)

@@ -1,8 +1,9 @@
--- `tighten::rule::numbers_at` meets its contract.
-use Rattle.tighten.specs.Meeting.{numbersAt}
+-- `problem::fields_of` meets its contract.
+use Rattle.problem.specs.Reading.{fieldsAt}
+use native.Mathlib.Omega.{arith}
 use borrow.Author.Needs.{needs}
-use Rattle.tighten.proofs.rule.numbers_at.Statement.{statement}
-use Rattle.tighten.proofs.rule.numbers_at.Tie as tie
+use Rattle.problem.proofs.fields_of.Statement.{statement}
+use Rattle.problem.proofs.fields_of.Tie as tie
 
 mul-at : tie.Need-mul-at
 mul-at c = search needs
@@ -59,11 +60,12 @@ wide-requires-6 : tie.Need-wide-requires-6
 wide-requires-6 c κs = search needs
 
 returns : tie.Need-returns
-unfolding numbersAt
-returns c = cc
+unfolding fieldsAt
+returns c =
+    (cc, record { r = omega arith; a = omega arith; b = omega arith; s = omega arith })
 
-pub numbers-at-spec : {M : Type 1} → statement M
-numbers-at-spec =
+pub fields-of-spec : {M : Type 1} → statement M
+fields-of-spec =
     tie.close
     (tie.spec
     mul-at

@@ -1,9 +1,9 @@
--- `checker::rows::used` meets its contract.
+-- `problem::kinds::used` meets its contract.
 use borrow.Author.Needs.{needs}
 use Rattle.rules.specs.Kinds.{kindOf}
-use Rattle.checker.proofs.RowNumbers.{entry-used}
-use Rattle.checker.proofs.rows.used.Statement.{statement}
-use Rattle.checker.proofs.rows.used.Tie as tie
+use Rattle.problem.proofs.RowNumbers.{entry-used}
+use Rattle.problem.proofs.kinds.used.Statement.{statement}
+use Rattle.problem.proofs.kinds.used.Tie as tie
 
 row-requires : tie.Need-row-requires
 row-requires c κs = search needs

@@ -1,0 +1,3 @@
+pub mod Lents
+pub mod RowNumbers
+pub mod Readings

@@ -1,0 +1,4 @@
+pub mod Lent
+pub mod Rows
+pub mod Places
+pub mod Reading
