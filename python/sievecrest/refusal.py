@@ -1,0 +1,50 @@
+"""Refusals: the number of the first fault, and its place. A refusal is an exception that prints as one sentence."""
+from .numbers import Fault
+
+# what the place counts, where it counts something
+COUNTED = {
+    Fault.CHECK: "block",
+    Fault.LAYOUT: "block",
+    Fault.WIDTH: "word",
+    Fault.TABLE: "word",
+    Fault.KIND: "rule",
+    Fault.FIELD: "rule",
+    Fault.FIT: "rule",
+}
+
+# what is wrong, said of the place if there is one, and what to do; the sentences of the wrapper for Rust
+SENTENCES = {
+    Fault.SIZE: "more than 32 words or 252 rules, or a file that is not 1 to 7 blocks long; split the problem, or give the whole file",
+    Fault.CHECK: "has a wrong sum; fetch the file again, or write it anew",
+    Fault.LAYOUT: "cannot stand there in a block file; look at its kind, number, record count and zeros, or write the file anew",
+    Fault.WIDTH: "has a width that is not 1 to 64; give the register's width",
+    Fault.TABLE: "has a lo with a 1 where hi has 0, or a bound with a 1 at or above the width; look at the bits that the board fixes",
+    Fault.KIND: "has a kind that is not 1 to 14; use a number of Kind",
+    Fault.FIELD: "names a word that is not there, or sets a field that its kind does not use; name a word, or clear the field",
+    Fault.FIT: "has widths, or a k, that do not fit; compare the widths with what its kind asks for",
+    Fault.LIMIT: "the limit is over 1000000; give a smaller one",
+    Fault.ASK: "no such rule, a place that its kind does not use, or a bit not below the width or not open; ask for an open bit",
+    Fault.EMPTY: "a cause without any rule; report it with the problem, since words without rules have settings",
+}
+
+
+class Refusal(Exception):
+    """The first fault of what a call was given: what is wrong, where, and what to do."""
+
+    def __init__(self, number, place):
+        super().__init__(number, place)
+        self.number = Fault(number)
+        """Which fault."""
+        self.place = place
+        """Where: the number of a block, a word or a rule; else 0."""
+
+    def __str__(self):
+        counted = COUNTED.get(self.number)
+        where = f"{counted} {self.place} " if counted else ""
+        return f"refused, {self.number.value} {self.number.name}: {where}{SENTENCES[self.number]}"
+
+    def __eq__(self, other):
+        return isinstance(other, Refusal) and (self.number, self.place) == (other.number, other.place)
+
+    def __hash__(self):
+        return hash((self.number, self.place))
