@@ -1,6 +1,6 @@
 """Block files, read and written as the product's paper says under "Block files" and "What comes back".
 
-Shares no code and no table with the crates. `boards.py` hands in its own reading of refusals 4 to 9.
+Shares no code and no table with the crates. `reading.py` hands in the refusals 4 to 9 of `paper.py`.
 """
 
 BLOCK = 512

@@ -1,16 +1,9 @@
-#!/usr/bin/env python3
-"""The boards that the program `boards` runs, answered anew from the product's paper and compared with what the program must print.
+"""What the product's paper says of words, rules, refusals, tightening, the published search, reasons and causes: a reading of its own in Python.
 
-Reads tests/boards/boards.txt, computes each answer anew, tightening by going through every fit, and compares with tests/boards/answers.txt line by line.
-It shares no code and no table with the crates.
+Shares no code and no table with the crates. Tightening goes through every fit. Words are a list of numbers, three a word (width, lo, hi); rules are a list of
+bytes, six a rule (kind, r, a, b, s, k).
 """
 import itertools
-import sys
-
-import blockfiles
-
-STDIN = "tests/boards/boards.txt"
-STDOUT = "tests/boards/answers.txt"
 
 # kind: the fields it uses (r a b s k), and what its values must satisfy
 USES = {1: "ra", 2: "ra", 3: "rab", 4: "rab", 5: "rab", 6: "rab", 7: "rabs", 8: "rak", 9: "rab", 10: "rak", 11: "rak", 12: "ab", 13: "ab", 14: "ab"}
@@ -143,46 +136,6 @@ def tightened(words, rules):
             return words
 
 
-def problem(numbers, line):
-    """The words and rules of a line, each after their count, and nothing behind them."""
-    size = numbers[0]
-    words, rules = numbers[1 : 1 + size], numbers[2 + size :]
-    if len(words) != size or len(rules) != numbers[1 + size]:
-        raise ValueError("a board's counts do not fit its numbers: " + line)
-    return words, rules
-
-
-def check(numbers, line):
-    words, rules = problem(numbers[1:], line)
-    return refusal(words, rules, numbers[0]), ["ok"]
-
-
-def tighten(numbers, line):
-    words, rules = problem(numbers[1:], line)
-    refused = (1, 0) if numbers[0] < 320 else refusal(words, rules, 0)
-    left = None if refused else tightened(words, rules)
-    return refused, ["conflict"] if left is None else ["tight"] + left
-
-
-def read(numbers, line):
-    file = blockfiles.laid(numbers[2], numbers[3:])
-    refused, parts = blockfiles.read(file, numbers[:2], refusal)
-    if refused:
-        return refused, None
-    words, rules, limit = parts
-    if blockfiles.written(words, rules, limit) != file:
-        raise ValueError("a file that reads is not written back: " + line)
-    return None, ["ok", len(words) // 3, len(rules) // 6, limit] + words + rules
-
-
-def write(numbers, line):
-    words, rules = problem(numbers[2:], line)
-    refused, file = blockfiles.write(words, rules, numbers[1], numbers[0], refusal)
-    if refused:
-        return refused, None
-    return None, ["ok", len(file)] + [x for pair in enumerate(file) if pair[1] for x in pair]
-
-
 def search(words, rules, limit, used=0):
     """The published search of a table: its answer, its count, and the settings found."""
     tight = tightened(words, rules)
@@ -202,16 +155,6 @@ def search(words, rules, limit, used=0):
     return answer if answer[0] != "none" else search(one, rules, limit, answer[1])
 
 
-def solve(numbers, line):
-    limit, model, work = numbers[:3]
-    words, rules = problem(numbers[3:], line)
-    refused = (1, 0) if work < 4608 or model < len(words) // 3 else refusal(words, rules, limit)
-    if refused:
-        return refused, None
-    answer, count, values = search(words, rules, limit)
-    return None, [answer, count] + ([len(values)] + values if answer == "found" else [])
-
-
 def says(words, rule, place, bit, opened):
     """What a rule says of a bit, with some bits treated as open at their places."""
     kind, named, k = rule[0], dict(zip("rabs", rule[1:5])), rule[5]
@@ -229,85 +172,46 @@ def says(words, rule, place, bit, opened):
     return "conflict" if not seen else "free" if len(seen) == 2 else "forced %d" % seen.pop()
 
 
-def explain(numbers, line):
-    rule, place, bit, room = numbers[:4]
-    words, rules = problem(numbers[4:], line)
-    refused = (1, 0) if room < 193 else refusal(words, rules, 0)
-    if refused:
-        return refused, None
-    if rule >= len(rules) // 6 or place > 3:
-        return (10, 0), None
-    asked, named = rules[6 * rule : 6 * rule + 6], "rabs"[place]
-    word = asked[1 + place]
-    if named not in USES[asked[0]] or bit >= words[3 * word] or not (words[3 * word + 1] ^ words[3 * word + 2]) >> bit & 1:
-        return (10, 0), None
-    answer, opened, reason = says(words, asked, named, bit, []), [], []
+def reason(words, rule, place, bit):
+    """What a rule says of an open bit at a place, and the reason, each entry 64 times place plus bit; none where the bit is free."""
+    named = "rabs"[place]
+    answer, opened, entries = says(words, rule, named, bit, []), [], []
     if answer == "free":
-        return None, ["free"]
+        return answer, entries
     for number, p in enumerate("rabs"):
-        if p not in USES[asked[0]]:
+        if p not in USES[rule[0]]:
             continue
-        at = 3 * asked[1 + number]
+        at = 3 * rule[1 + number]
         for j in range(words[at]):
             if (words[at + 1] ^ words[at + 2]) >> j & 1:
                 continue
-            if says(words, asked, named, bit, opened + [(p, j)]) == answer:
+            if says(words, rule, named, bit, opened + [(p, j)]) == answer:
                 opened.append((p, j))
             else:
-                reason.append(64 * number + j)
-    return None, [answer if answer != "conflict" else "conflict 0", len(reason)] + reason
+                entries.append(64 * number + j)
+    return answer, entries
 
 
-def cause(numbers, line):
-    limit, room, work = numbers[:3]
-    words, rules = problem(numbers[3:], line)
-    refused = (1, 0) if work < 5120 or room < len(rules) // 6 else refusal(words, rules, limit)
-    if refused:
-        return refused, None
+def is_question(words, rules, rule, place, bit):
+    """Whether an explanation may be asked: an open bit at a place that the rule uses."""
+    if rule >= len(rules) // 6 or place > 3 or "rabs"[place] not in USES[rules[6 * rule]]:
+        return False
+    width, lo, hi = words[3 * rules[6 * rule + 1 + place] :][:3]
+    return bit < width and (lo ^ hi) >> bit & 1 == 1
+
+
+def cause(words, rules, limit):
+    """The answer, the sum of all counts, and the rules that are left."""
     answer, total, _ = search(words, rules, limit)
     if answer != "none":
-        return None, ["exists" if answer == "found" else answer, total]
+        return "exists" if answer == "found" else answer, total, None
     kept = list(range(len(rules) // 6))
     for n in reversed(range(len(rules) // 6)):
         rest = [j for j in kept if j != n]
         answer, count, _ = search(words, [x for j in rest for x in rules[6 * j : 6 * j + 6]], limit)
         total += count
         if answer == "gaveup":
-            return None, [answer, total]
+            return answer, total, None
         if answer == "none":
             kept = rest
-    return None, ["cause", total, len(kept)] + kept
-
-
-CALLS = {"check": check, "tighten": tighten, "read": read, "write": write, "solve": solve, "explain": explain, "cause": cause}
-
-
-def answer(line):
-    """The line that the program must print for a board."""
-    name, call, *numbers = line.split()
-    refused, told = CALLS[call]([int(x) for x in numbers], line)
-    if refused:
-        told = ["refused", *refused]
-    return " ".join([name] + [str(x) for x in told])
-
-
-def main():
-    passed = failed = 0
-    boards = [line for line in open(STDIN, encoding="ascii") if line.strip() and not line.startswith("#")]
-    printed = open(STDOUT, encoding="ascii").read().splitlines()
-    for line, told in itertools.zip_longest(boards, printed):
-        wanted = answer(line) if line else "nothing"
-        if wanted == told:
-            passed += 1
-        else:
-            failed += 1
-            print(f"{STDOUT}: {told!r}, and the paper says {wanted!r}")
-    if not boards:
-        failed += 1
-        print(f"{STDIN}: no board was found")
-    print(f"{passed} passed, {failed} failed")
-    return 1 if failed else 0
-
-
-if __name__ == "__main__":
-    sys.exit(main())
+    return "cause", total, kept
