@@ -1,8 +1,9 @@
 #!/usr/bin/env python3
 """The example boards: each block file is what its text gives, a text printed from it gives the same bytes, and the program prints the lines shown.
 
-tests/examples.py PROGRAM: PROGRAM is the adviser program. The lines wanted are those of examples/README.md. What tools/board.py refuses is tried too: each
-fault is named with its line and with what to do.
+tests/examples.py PROGRAM: PROGRAM is the adviser program. The lines wanted are those of examples/README.md. Standard error is looked at too: it is empty where
+the program printed its lines, and has one line where it could not read or write. What tools/board.py refuses is tried too: each fault is named with its line
+and with what to do.
 """
 import os
 import subprocess
@@ -128,9 +129,33 @@ def examples(program):
         blocks = read(name + ".blocks")
         yield f"{name}: block file of the text", tool("write", read(name + ".board")), (blocks, "")
         yield f"{name}: text printed and written", tool("write", tool("print", blocks)[0]), (blocks, "")
-        with open(f"{FOLDER}/{name}.blocks", "rb") as file:
-            done = subprocess.run([program], stdin=file, capture_output=True, timeout=60, check=False)
-        yield f"{name}: lines printed", (done.stdout.decode("ascii", "replace"), done.returncode), (lines[name], 0)
+        yield f"{name}: lines printed", run([program], blocks), (lines[name], "", 0)
+
+
+def run(command, data=b""):
+    """What a command prints on standard output and on standard error, and its exit status."""
+    done = subprocess.run(command, input=data, capture_output=True, timeout=60, check=False)
+    return done.stdout.decode("ascii", "replace"), done.stderr.decode("utf-8", "replace"), done.returncode
+
+
+# how the program is run from a shell, the stream that it cannot use, and why not
+BROKEN = (
+    ("<&-", "standard input", "Bad file descriptor"),
+    ("</", "standard input", "Is a directory"),
+    (">/dev/full", "standard output", "No space left on device"),
+    (">&-", "standard output", "Bad file descriptor"),
+)
+
+
+def streams(program):
+    """Standard error: empty after every sort of lines; one line, and nothing on standard output, where a stream cannot be used."""
+    yield "lines of an empty file", run([program]), ("refused 1 0\n", "", 0)
+    yield "lines of a file that is too long", run([program], 8 * read("pll.blocks")), ("refused 1 0\n", "", 0)
+    yield "lines of a damaged file", run([program], damaged(read("pll.blocks"), 6, 1)), ("refused 2 0\n", "", 0)
+    for name in ("pll", "loads", "addresses"):
+        for how, stream, why in BROKEN:
+            came = run(["env", "LC_ALL=C", "sh", "-c", f'exec "$0" {how}', program], read(name + ".blocks"))
+            yield f"{name}: the program run with {how}", came, ("", f"{stream}: {why}\n", 0)
 
 
 def texts():
@@ -152,7 +177,8 @@ def main():
         print("tests/examples.py: give the adviser program, proved and linked, as target/bin/advise\n0 passed, 1 failed")
         return 1
     passed = failed = 0
-    for what in (examples(os.path.abspath(sys.argv[1])), texts()):
+    program = os.path.abspath(sys.argv[1])
+    for what in (examples(program), streams(program), texts()):
         for name, got, wanted in what:
             if got == wanted:
                 passed += 1
