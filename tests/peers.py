@@ -27,12 +27,12 @@ def lines_of(board, answer, numbers, counts):
 
 
 def printed(program, board):
-    """What the program prints for a board."""
+    """What the program prints for a board, with what it says on standard error, which must be nothing."""
     try:
         done = subprocess.run([program], input=board.file(), capture_output=True, timeout=SECONDS, check=False)
     except subprocess.TimeoutExpired:
         return f"(no end within {SECONDS} s)"
-    return done.stdout.decode("ascii", "replace") + (f"(exit status {done.returncode})" if done.returncode else "")
+    return (done.stdout + done.stderr).decode("ascii", "replace") + (f"(exit status {done.returncode})" if done.returncode else "")
 
 
 def keep(board):

@@ -18,13 +18,13 @@ SECONDS = 60
 
 
 def printed(command, board):
-    """What a program prints for a board; a text that says why where it does not end well."""
+    """What a program prints for a board; a text that says why where it does not end well or says something on standard error."""
     with open(board, "rb") as file:
         try:
             done = subprocess.run([command], stdin=file, capture_output=True, timeout=SECONDS, check=False)
         except subprocess.TimeoutExpired:
             return f"(no end within {SECONDS} s)\n".encode()
-    if done.returncode != 0:
+    if done.returncode != 0 or done.stderr:
         return done.stdout + f"(exit status {done.returncode})\n".encode() + done.stderr
     return done.stdout
 

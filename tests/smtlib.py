@@ -4,7 +4,9 @@
 tests/smtlib.py PROGRAM. The defining equations are those of the theory FixedSizeBitVectors, of the logic QF_BV (bvxor, bvule) and of the Core theory (ite,
 distinct), over lists of bits, lowest first; every choice of operands at a small width is a board with the result open. A law is a board in which its two sides
 differ: it must be unsat. The script is the swap without a temporary variable of SMT-LIB's example page, where `(check-sat)` answers unsat; its negated
-conjunction is cut into two boards, and x - y = z is written x = z + y. A board that fails is kept in target/smtlib.
+conjunction is cut into two boards, and x - y = z is written x = z + y. It is run at width 4, where the search ends, and at its own width, 32: there the search
+gives up at every limit tried, which says nothing against unsat, and with given values of x0 and y0 it is unsat at once. A board that fails is kept in
+target/smtlib.
 """
 import importlib.util
 import itertools
@@ -72,11 +74,12 @@ def keep(number):
     return f"./advise {KEPT}/{number}.board"
 
 
-def advised(program, lines):
-    """The lines that the program prints for a board's text."""
-    ASKED[:] = ["\n".join(["limit 100000"] + lines) + "\n"]
+def advised(program, lines, limit=100000):
+    """The lines that the program prints for a board's text, after those on standard error, of which there must be none."""
+    ASKED[:] = ["\n".join([f"limit {limit}"] + lines) + "\n"]
     data = BOARD.blocks(*BOARD.parse(ASKED[0]))
-    return subprocess.run([program], input=data, stdout=subprocess.PIPE, check=True, timeout=60).stdout.decode("ascii", "replace").splitlines()
+    done = subprocess.run([program], input=data, capture_output=True, check=True, timeout=60)
+    return (done.stderr + done.stdout).decode("ascii", "replace").splitlines()
 
 
 def fixed(name, v):
@@ -95,7 +98,7 @@ def equations(program):
     for name, compares in COMPARES.items():
         for s, t in itertools.product(all_values, repeat=2):
             lines = advised(program, [fixed("s", s), fixed("t", t), f"{name} s t"])
-            yield f"{name} {s} {t}", lines, ["sat 0" if compares(s, t) else "unsat 0"]
+            yield f"{name} {s} {t}", lines[:1], ["sat 0" if compares(s, t) else "unsat 0"]
     for s, t in itertools.product(all_values, repeat=2):
         for c in (0, 1):
             yield f"ITE {c} {s} {t}", advised(program, [f"word r {width}", fixed("s", s), fixed("t", t), fixed("c", [c]), "ITE r = s if c else t"]), [
@@ -119,29 +122,57 @@ def laws(program):
         yield "law: " + name, [line.partition(" ")[0] for line in lines[:1]], ["unsat"]
 
 
+# the swap: x1 = x0 + y0, y1 = x1 - y0, x2 = x1 - y1; then x2 is y0 and y1 is x0
+STEPS = ["ADD x1 = x0 y0", "ADD x1 = y1 y0", "ADD x1 = x2 y1"]
+# with this last step other values come for some x0 and y0
+WRONG = STEPS[:2] + ["ADD x2 = x1 y1"]
+PUBLISHED = 32
+
+
+def variables(width, x0="", y0=""):
+    return [f"word x0 {width} {x0}", f"word y0 {width} {y0}"] + [f"word {name} {width}" for name in ("x1", "y1", "x2")]
+
+
 def swap(program):
-    """x1 = x0 + y0, y1 = x1 - y0, x2 = x1 - y1; then x2 is y0 and y1 is x0. A wrong last step gives other values for some x0 and y0."""
-    words = [f"word {name} 4" for name in ("x0", "y0", "x1", "y1", "x2")]
-    steps = ["ADD x1 = x0 y0", "ADD x1 = y1 y0", "ADD x1 = x2 y1"]
+    """The script at width 4, and a swap that is wrong."""
     for sides in ("x2 y0", "y1 x0"):
-        lines = advised(program, words + steps + [f"NE {sides}"])
+        lines = advised(program, variables(4) + STEPS + [f"NE {sides}"])
         yield f"swap, {sides} differ", [line.partition(" ")[0] for line in lines[:1]], ["unsat"]
-    wrong = advised(program, words + steps[:2] + ["ADD x2 = x1 y1", "NE x2 y0"])
+    wrong = advised(program, variables(4) + WRONG + ["NE x2 y0"])
     yield "wrong swap", [line.partition(" ")[0] for line in wrong[:1]], ["sat"]
 
 
+def swap_as_published(program):
+    """The script at its own width: with x0 and y0 open at several limits, then with values for them."""
+    for limit in (0, 1, 31, 32, 33, 63, 64, 65, 100, 1000, 10000, 100000):
+        for sides in ("x2 y0", "y1 x0"):
+            lines = advised(program, variables(PUBLISHED) + STEPS + [f"NE {sides}"], limit)
+            yield f"swap at width {PUBLISHED}, {sides} differ, limit {limit}", lines, [f"unknown {limit}"]
+    top = 1 << PUBLISHED
+    some = [0, 1, 2, top // 2 - 1, top // 2, top - 2, top - 1, 0x55555555, 0xDEADBEEF]
+    for x0, y0 in itertools.product(some, repeat=2):
+        given, name = variables(PUBLISHED, f"= {x0}", f"= {y0}"), f"swap of {x0} and {y0}"
+        for sides in ("x2 y0", "y1 x0"):
+            yield f"{name}, {sides} differ", advised(program, given + STEPS + [f"NE {sides}"], 0)[:1], ["unsat 0"]
+        values = [x0, y0, (x0 + y0) % top, x0, y0]
+        wanted = ["sat 0"] + [f"{i} {PUBLISHED} {v:0{PUBLISHED}b}" for i, v in enumerate(values)]
+        yield name, advised(program, given + STEPS, 0), wanted
+        verdict = "unsat 0" if 2 * x0 % top == 0 else "sat 0"
+        yield f"wrong {name}", advised(program, given + WRONG + ["NE x2 y0"], 0)[:1], [verdict]
+
+
 def same(told, wanted):
-    """Whether the first line is the one wanted, and word 0 has the bits wanted."""
-    if not told or told[0] != wanted[0]:
-        return False
-    return len(wanted) == 1 or (len(told) > 1 and told[1].split()[-1] == "".join(str(b) for b in reversed(wanted[1])))
+    """Whether the lines are those wanted; where only the bits of word 0 are wanted, whether the first line is, and word 0 has them."""
+    if all(isinstance(line, str) for line in wanted):
+        return told == wanted
+    return len(told) > 1 and told[0] == wanted[0] and told[1].split()[-1] == "".join(str(b) for b in reversed(wanted[1]))
 
 
 def main():
     if len(sys.argv) != 2:
         sys.exit("use: tests/smtlib.py PROGRAM, the adviser program")
     passed = failed = 0
-    for name, told, wanted in itertools.chain(equations(sys.argv[1]), laws(sys.argv[1]), swap(sys.argv[1])):
+    for name, told, wanted in itertools.chain(*(part(sys.argv[1]) for part in (equations, laws, swap, swap_as_published))):
         if same(told, wanted):
             passed += 1
         else:
