@@ -1,9 +1,13 @@
 #!/usr/bin/env python3
-"""The adviser program compared with a second solver, written from the product's paper alone, on boards of all sorts.
+"""The adviser program, and `tighten` and `explain` of the linked library, compared with a second solver, written from the product's paper alone.
 
 tests/second.py PROGRAM [COUNT [SEED]]: builds tests/second, lets it make COUNT boards with the lines that each must give, runs PROGRAM on every
 board and compares all that it prints. A board that fails is kept in target/second with the lines wanted and the lines printed.
+Then it lets tests/second ask 8,960 questions for each of `tighten` and `explain`, the same number at each width from 1 to 64, and makes the calls, with every
+lent number looked at, as tests/boards does. The library is found as the Python package finds it (python/README.md). A question that fails is kept in
+target/second/questions.txt as two lines, the board and the answer wanted.
 """
+import collections
 import os
 import re
 import shutil
@@ -11,10 +15,22 @@ import subprocess
 import sys
 import tempfile
 
+sys.path.insert(0, os.path.join(os.path.dirname(os.path.abspath(__file__)), "boards"))
+import form  # noqa: E402
+import lent  # noqa: E402
+
 SECOND = "tests/second"
 BUILT = SECOND + "/target/release/second"
 KEPT = "target/second"
 SECONDS = 60
+# for each call, a multiple of the 64 widths and the 14 kinds; and the least that each sort of answer must come up
+QUESTIONS = 8960
+PLENTY = {
+    "tighten": {"tight, bounds changed": 2000, "tight, nothing changed": 1000, "conflict": 2000, "refused": 500},
+    "explain": {"forced": 3000, "conflict": 1500, "free": 800, "refused": 500},
+}
+WIDTHS = range(1, 65)
+AT_EACH_WIDTH = 4
 
 
 def printed(command, board):
@@ -56,6 +72,56 @@ def compare(program, folder):
     return passed, failed
 
 
+def sort_of(board, reply):
+    """The sort of an answer: its own word, of TIGHT also whether a bound changed."""
+    if reply.refused:
+        return "refused"
+    if reply.answer == "tight":
+        return "tight, " + ("nothing" if reply.stored["words"] == board.words else "bounds") + " changed"
+    return reply.answer
+
+
+def asked(question, answer, sorts):
+    """Whatever is wrong about one question, in words, and how many lent numbers were looked at; `sorts` counts answers by call, sort and width."""
+    board = form.board(question)
+    reply = form.reply(board, answer)
+    # questions are numbered, one width after the other
+    width = WIDTHS[int(board.name.partition("-")[2]) % len(WIDTHS)]
+    sorts[board.call, sort_of(board, reply)][width] += 1
+    came, buffers = lent.called(board.call, board)
+    return list(lent.differences(board.call, came, buffers, reply)), lent.looked_at(buffers)
+
+
+def questions(seed):
+    """Counts of questions for `tighten` and `explain` that passed and failed, and whether every sort of answer came up often enough."""
+    done = subprocess.run([BUILT, "ask", str(QUESTIONS), seed], stdout=subprocess.PIPE, text=True, check=False)
+    lines = done.stdout.splitlines()
+    if done.returncode != 0 or len(lines) != 4 * QUESTIONS:
+        stop(f"{BUILT} ask gave {len(lines) // 2} questions, and {2 * QUESTIONS} were asked for; the messages above say why")
+    passed = failed = looked = 0
+    sorts = collections.defaultdict(collections.Counter)
+    for question, answer in zip(lines[::2], lines[1::2]):
+        faults, numbers = asked(question, answer, sorts)
+        looked += numbers
+        passed, failed = passed + (not faults), failed + bool(faults)
+        if faults and failed <= 10:
+            os.makedirs(KEPT, exist_ok=True)
+            with open(f"{KEPT}/questions.txt", "a", encoding="ascii") as file:
+                file.write(question + "\n" + answer + "\n")
+            print(f"{question.split()[0]}, kept in {KEPT}/questions.txt: {'; '.join(faults)[:400]}")
+    for call, least in PLENTY.items():
+        for sort, wanted in least.items():
+            widths = sorts[call, sort]
+            total, fewest = sum(widths.values()), min(widths[width] for width in WIDTHS)
+            print(f"{call}: {total} {sort}, at each width at least {fewest}")
+            few = total < wanted or fewest < AT_EACH_WIDTH
+            passed, failed = passed + (not few), failed + few
+            if few:
+                print(f"{call}: {wanted} must be {sort}, at each width {AT_EACH_WIDTH}; see tests/second/src/ask.rs")
+    print(f"{2 * QUESTIONS} questions, {looked} lent numbers looked at")
+    return passed, failed
+
+
 def own_tests():
     """Counts of the second solver's own tests, among them the boards that the paper works by hand."""
     done = subprocess.run(["cargo", "test", "--release", "--offline"], cwd=SECOND, capture_output=True, text=True, check=False)
@@ -91,7 +157,11 @@ def main():
     if passed + failed < int(count):
         stop(f"{passed + failed} boards were compared, and {count} were asked for; see what {BUILT} make does")
     print(f"{passed} boards agree, {failed} do not")
-    passed, failed = (a + b for a, b in zip((passed, failed), own_tests()))
+    try:
+        both = questions(seed)
+    except lent.Unavailable as error:
+        stop(str(error))
+    passed, failed = (sum(x) for x in zip((passed, failed), both, own_tests()))
     print(f"{passed} passed, {failed} failed")
     return 1 if failed or not passed else 0
 

@@ -1,65 +1,7 @@
-"""The boards of boards.txt, and what the paper says that each call answers and leaves in lent memory."""
-import pathlib
-from typing import Dict, List, NamedTuple
-
+"""What the paper says that each call answers to a board, and leaves in lent memory."""
 import blockfiles
 import paper
-
-FOLDER = pathlib.Path(__file__).resolve().parent
-# the numbers of a board that stand before its lists, by call; all but the limit and the question are lengths of lent memory
-OWN = {
-    "check": ["limit"],
-    "tighten": ["work"],
-    "solve": ["limit", "model", "work"],
-    "explain": ["rule", "place", "bit", "list"],
-    "cause": ["limit", "list", "work"],
-    "read": ["words", "rules", "length"],
-    "write": ["file", "limit"],
-}
-
-
-class Board(NamedTuple):
-    """A line of boards.txt. For `read` there is a file, and words and rules are none."""
-
-    name: str
-    call: str
-    own: Dict[str, int]
-    words: List[int]
-    rules: List[int]
-    file: bytes
-
-
-class Reply(NamedTuple):
-    """What a call answers: a word, or the number of a refusal; the numbers beside it; and what it puts at the beginning of lent memory."""
-
-    answer: object
-    low: int = 0
-    high: int = 0
-    stored: Dict[str, list] = {}
-
-    @property
-    def refused(self):
-        return isinstance(self.answer, int)
-
-
-def board(line):
-    """A line taken apart: its counts must fit its numbers, with nothing behind them."""
-    name, call, *rest = line.split()
-    numbers = [int(x) for x in rest]
-    own, lists = dict(zip(OWN[call], numbers)), numbers[len(OWN[call]) :]
-    if call == "read":
-        return Board(name, call, own, [], [], blockfiles.laid(own["length"], lists))
-    size = lists[0]
-    words, rules = lists[1 : 1 + size], lists[2 + size :]
-    if len(words) != size or len(rules) != lists[1 + size]:
-        raise ValueError("a board's counts do not fit its numbers: " + line)
-    return Board(name, call, own, words, rules, b"")
-
-
-def boards():
-    """All boards in order."""
-    lines = (FOLDER / "boards.txt").read_text(encoding="ascii").splitlines()
-    return [board(line) for line in lines if line.strip() and not line.startswith("#")]
+from form import Reply
 
 
 def refused(board, least):
@@ -79,7 +21,7 @@ def tighten(board):
     if reply:
         return reply
     left = paper.tightened(board.words, board.rules)
-    return Reply("conflict") if left is None else Reply("tight", stored={"words": left})
+    return Reply("conflict", stored={"words": []}) if left is None else Reply("tight", stored={"words": left})
 
 
 def solve(board):
@@ -148,23 +90,3 @@ def advise(board):
 
 
 CALLS = {"check": check, "tighten": tighten, "solve": solve, "explain": explain, "cause": cause, "read": read, "write": write}
-
-
-def line(board, reply):
-    """The reply as a line of answers.txt."""
-    if reply.refused:
-        told = ["refused", reply.answer, reply.low]
-    elif board.call == "read":
-        words, rules = reply.stored["words"], reply.stored["rules"]
-        told = ["ok", len(words) // 3, len(rules) // 6, reply.low, *words, *rules]
-    elif board.call == "write":
-        told = ["ok", reply.low] + [x for pair in enumerate(reply.stored["file"]) if pair[1] for x in pair]
-    elif board.call in ("check", "tighten"):
-        told = [reply.answer, *reply.stored.get("words", [])]
-    elif reply.answer == "free":
-        told = ["free"]
-    else:
-        told = [reply.answer, reply.low]
-        for entries in reply.stored.values():
-            told += [len(entries), *entries]
-    return " ".join(str(x) for x in [board.name, *told])

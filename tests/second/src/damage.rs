@@ -27,7 +27,7 @@ pub fn damaged(problem: &Problem, random: &mut Random) -> Vec<u8> {
 }
 
 /// Refusals 4 to 9.
-fn spoil_problem(number: u64, problem: &mut Problem, random: &mut Random) {
+pub fn spoil_problem(number: u64, problem: &mut Problem, random: &mut Random) {
     let (i, j) = (random.below(problem.words.len().max(1) as u64) as usize, random.below(problem.rules.len().max(1) as u64) as usize);
     let words = problem.words.len();
     let word = match problem.words.get_mut(i) {

@@ -34,7 +34,8 @@ pub fn narrowed(words: &[Word], rule: &Rule, meter: &mut Meter) -> Result<Option
     }
 }
 
-fn bounds_of(words: &[Word], rule: &Rule) -> [Word; 4] {
+/// The bounds at the places of a rule, those of no word at places that the kind does not use.
+pub fn bounds_of(words: &[Word], rule: &Rule) -> [Word; 4] {
     let mut bounds = [Word::default(); 4];
     for p in places(rule.kind) {
         bounds[p] = words[usize::from(rule.at[p])];
@@ -108,7 +109,7 @@ fn by_asking(rule: &Rule, bounds: [Word; 4]) -> Option<[Word; 4]> {
 }
 
 /// Whether a rule has any fit.
-fn has_fit(rule: &Rule, [r, a, b, s]: &[Word; 4]) -> bool {
+pub fn has_fit(rule: &Rule, [r, a, b, s]: &[Word; 4]) -> bool {
     let can = |word: &Word, bit: u8, value: bool| if value { word.hi >> bit & 1 == 1 } else { word.lo >> bit & 1 == 0 };
     let same = |x: &Word, i: u8, y: &Word, j: u8| [false, true].into_iter().any(|v| can(x, i, v) && can(y, j, v));
     let both = |i: u8, op: fn(bool, bool) -> bool| {
@@ -134,32 +135,64 @@ fn has_fit(rule: &Rule, [r, a, b, s]: &[Word; 4]) -> bool {
     }
 }
 
-/// Whether some a and b have a sum that keeps r: the sums and carries of the bits below are kept as the set of carries that can come.
+/// Whether some a and b have a sum that keeps r: bit by bit from below, the carries that can come are kept, 1 for carry 0 and 2 for carry 1.
 fn has_sum(r: &Word, a: &Word, b: &Word) -> bool {
-    let choices = |word: &Word, bit: u8| (0..2u8).filter(|&v| (if v == 1 { word.hi } else { !word.lo }) >> bit & 1 == 1).collect::<Vec<_>>();
-    let mut carries = vec![0u8];
+    let mut carries = 1;
     for i in 0..r.width {
-        let mut next = Vec::new();
-        for &carry in &carries {
-            for &x in &choices(a, i) {
-                for &y in &choices(b, i) {
-                    let sum = x + y + carry;
-                    if choices(r, i).contains(&(sum % 2)) && !next.contains(&(sum / 2)) {
-                        next.push(sum / 2);
-                    }
-                }
+        let can = |word: &Word, value: u64| (if value == 1 { word.hi } else { !word.lo }) >> i & 1 == 1;
+        let mut next = 0;
+        for (x, y, carry) in (0..8u64).map(|n| (n & 1, n >> 1 & 1, n >> 2)) {
+            let sum = x + y + carry;
+            if carries >> carry & 1 == 1 && can(a, x) && can(b, y) && can(r, sum % 2) {
+                next |= 1 << (sum / 2);
             }
         }
         carries = next;
     }
-    !carries.is_empty()
+    carries != 0
 }
 
 #[cfg(test)]
 mod tests {
     use super::*;
-    use crate::paper::{check_rule, greatest};
+    use crate::paper::{check_rule, greatest, uses};
     use crate::random::Random;
+
+    /// All pairs of bounds of a width.
+    fn all_bounds(width: u8) -> Vec<Word> {
+        let all = (0..=greatest(width)).flat_map(|lo| (0..=greatest(width)).map(move |hi| Word { width, lo, hi }));
+        all.filter(|word| word.lo & !word.hi == 0).collect()
+    }
+
+    /// Both ways to narrow give the same on every table of one rule up to width 4: of three places and more every seventh at width 4, of JOIN all with a
+    /// result up to width 4.
+    #[test]
+    fn asking_is_every_fit_on_small_tables() {
+        let (mut compared, mut empty) = (0, 0);
+        for kind in 1..=14 {
+            let used = places(kind).count();
+            for (r, wide, k) in (1..=4).flat_map(|r| (1..=4).flat_map(move |wide| (0..4).map(move |k| (r, wide, k)))) {
+                let mut rule = Rule { kind, k, ..Rule::default() };
+                places(kind).for_each(|p| rule.at[p] = p as u8);
+                let widths = [r, wide, wide, 1];
+                if check_rule(&widths.map(|width| Word { width, lo: 0, hi: 0 }), &rule).is_err() || (kind >= 12 && r > 1) {
+                    continue;
+                }
+                let any = |p: usize| if places(kind).any(|q| q == p) { all_bounds(widths[p]) } else { vec![Word::default()] };
+                let (first, second, third, fourth) = (any(0), any(1), any(2), any(3));
+                let pairs = first.iter().flat_map(|x| second.iter().map(move |y| (x, y)));
+                let others = || third.iter().flat_map(|z| fourth.iter().map(move |s| (z, s)));
+                let tables = pairs.flat_map(|(&x, &y)| others().map(move |(&z, &s)| [x, y, z, s]));
+                for bounds in tables.step_by(if used > 2 && wide == 4 { 7 } else { 1 }) {
+                    let every = by_every_fit(&rule, bounds);
+                    assert_eq!(every, by_asking(&rule, bounds), "{rule:?} over {bounds:?}");
+                    compared += 1;
+                    empty += usize::from(every.is_none());
+                }
+            }
+        }
+        assert!(compared > 500_000 && empty > 100_000, "{compared} tables, {empty} without a fit");
+    }
 
     /// Both ways to narrow give the same on random rules of every kind, narrow and wide, with up to 12 open bits.
     #[test]
@@ -181,7 +214,7 @@ mod tests {
             for p in places(kind) {
                 rule.at[p] = random.below(4) as u8;
             }
-            if crate::paper::uses(kind).contains('k') {
+            if uses(kind).contains('k') {
                 rule.k = random.below(u64::from(usual)) as u8;
             }
             if check_rule(&words, &rule).is_err() {

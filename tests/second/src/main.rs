@@ -2,9 +2,10 @@
 //!
 //! Without arguments it reads one block file on standard input and prints the lines of the adviser program; exit status 3 where that takes too long.
 //! `second make FOLDER [COUNT [SEED]]` writes boards of all sorts as block files, each with the lines that it must give.
+//! `second ask [COUNT [SEED]]` prints COUNT questions for each of `tighten` and `explain`, two lines each: a board as in tests/boards/boards.txt, and its answer.
 
 use second::fits::{Meter, TooLong};
-use second::{file, lines, make};
+use second::{ask, file, lines, make};
 use std::io::Read;
 use std::process::exit;
 
@@ -42,6 +43,10 @@ fn main() {
                 Err(error) => fail(&format!("{}: {error}; give a folder that can be written", arguments[1]), 2),
             }
         }
-        _ => fail("no such arguments; give none, or: make FOLDER [COUNT [SEED]]", 2),
+        Some("ask") => {
+            let (lines, _) = ask::all(argument(arguments.get(1), "COUNT", 8960), argument(arguments.get(2), "SEED", 1));
+            print!("{lines}");
+        }
+        _ => fail("no such arguments; give none, or: make FOLDER [COUNT [SEED]], or: ask [COUNT [SEED]]", 2),
     }
 }

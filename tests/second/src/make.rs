@@ -14,7 +14,7 @@ use std::path::Path;
 const SMALL: u64 = 400_000;
 
 /// A random rule of random words that passes the checker; None if none was met.
-fn some_rule(words: &[Word], kind: u8, random: &mut Random) -> Option<Rule> {
+pub fn some_rule(words: &[Word], kind: u8, random: &mut Random) -> Option<Rule> {
     for _ in 0..30 {
         let mut rule = Rule { kind, ..Rule::default() };
         for p in places(kind) {
@@ -31,7 +31,7 @@ fn some_rule(words: &[Word], kind: u8, random: &mut Random) -> Option<Rule> {
 }
 
 /// A word around a value, with about so many in a hundred of its bits open.
-fn around(width: u8, value: u64, percent: u64, random: &mut Random) -> Word {
+pub fn around(width: u8, value: u64, percent: u64, random: &mut Random) -> Word {
     let open = (0..width).fold(0, |x, j| x | u64::from(random.below(100) < percent) << j);
     Word { width, lo: value & !open, hi: value | open }
 }
@@ -60,7 +60,7 @@ fn limit(random: &mut Random) -> u32 {
 }
 
 /// Words with values that obey the rules, the bits then opened; now and then a rule is added that the values break.
-fn around_values(most_words: u64, most_rules: u64, widths: &[u8], percent: u64, random: &mut Random) -> Problem {
+pub fn around_values(most_words: u64, most_rules: u64, widths: &[u8], percent: u64, random: &mut Random) -> Problem {
     let fixed = |width: u8, random: &mut Random| around(width, random.next() & greatest(width), 0, random);
     let mut words: Vec<Word> = (0..1 + random.below(3)).map(|_| fixed(random.pick(widths), random)).collect();
     let mut rules = Vec::new();
@@ -103,7 +103,7 @@ fn around_values(most_words: u64, most_rules: u64, widths: &[u8], percent: u64, 
 }
 
 /// The same words in another order, so that results also come before their operands.
-fn shuffled(mut problem: Problem, random: &mut Random) -> Problem {
+pub fn shuffled(mut problem: Problem, random: &mut Random) -> Problem {
     for i in (1..problem.words.len()).rev() {
         let j = random.below(i as u64 + 1) as usize;
         if random.once_in(2) {
