@@ -5,5 +5,5 @@ set -eu
 cd "$(dirname "$0")/../.."
 [ -n "${SIEVECREST_LIB_DIR-}" ] || rt staticlib sievecrest
 mkdir -p target/bench
-"${CC:-cc}" -O3 -Wall -Wextra -Iinclude -o target/bench/narrow bench/narrow/add.c "${SIEVECREST_LIB_DIR-target/staticlib}/libsievecrest.a"
+"${CC:-cc}" -O3 -Wall -Wextra -Iinclude -o target/bench/narrow bench/narrow/add.c "${SIEVECREST_LIB_DIR:-target/staticlib}/libsievecrest.a"
 target/bench/narrow
