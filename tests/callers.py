@@ -1,9 +1,9 @@
 #!/usr/bin/env python3
-"""The callers of the library: the C header with its worked example, every call from C, the Rust wrapper, and every number that they share with the crates.
+"""The callers of the library: the C header with its worked example, every call from C, the Rust wrapper, and every number and text that they share.
 
 tests/callers.py PROGRAM: PROGRAM is the adviser program, with which the wrapper's example is compared. Builds libsievecrest.a first; the environment variable
-SIEVECREST_LIB_DIR may name a folder that has one already. That the comparison of numbers can fail is tried on each number: altered in a copy of the header
-or of the wrapper it must be reported, and so must a number that is missing.
+SIEVECREST_LIB_DIR may name a folder that has one already. That the comparison can fail is tried on each number and on each refusal's text: altered in a copy
+of the header or of the wrapper it must be reported, and so must one that is missing.
 """
 import glob
 import os
@@ -20,14 +20,18 @@ HEADER = "include/sievecrest.h"
 WORKED = "tests/c/worked.c"
 CALLS = "tests/c/calls.c"
 WRAPPER = "rust/src/numbers.rs"
+WRAPPED_TEXTS = "rust/src/refusal.rs"
+CODE = "crates/*/src/*.rt"
+SPECS = "crates/*/specs/*.antt"
 BUILT = "target/callers"
-STRICT = ["-Wall", "-Wextra", "-Werror", "-pedantic", "-Iinclude"]
+STRICT = ["-Wall", "-Wextra", "-Wconversion", "-Werror", "-pedantic", "-Iinclude"]
 SECONDS = 900
 
+REFUSALS = "SIZE CHECK LAYOUT WIDTH TABLE KIND FIELD FIT LIMIT ASK EMPTY".split()
 ANSWERS = "FOUND NONE GAVE_UP OK TIGHT CONFLICT FORCED FREE EXISTS CAUSE".split()
 KINDS = "COPY NOT AND OR XOR ADD ITE SLICE JOIN SHL SHR ULE ULT NE".split()
-# what the wrapper has under other names, in types of its own, or not at all
-NOT_WRAPPED = {"ADVISE_WORK", "READ_WORDS", "READ_RULES", "BLOCK_BYTES"} | {"KIND_" + x for x in KINDS} | {"PLACE_" + x for x in "RABS"}
+# what the wrapper has in types of its own, or not at all
+NOT_WRAPPED = {"BLOCK_BYTES"} | {"KIND_" + x for x in KINDS} | {"PLACE_" + x for x in "RABS"}
 
 
 class Tally:
@@ -80,6 +84,10 @@ def constant(name):
     return rf"^(?:pub )?const {name}: \w+ = (\d+);"
 
 
+def public(name):
+    return rf"^pub const {name}: \w+ = (\d+);"
+
+
 def definition(name):
     return rf"^{name} = (\d+)$"
 
@@ -91,25 +99,26 @@ def demand(name):
 def places():
     """Where each number stands in the crates: its name, a file or several, and the text around it."""
     for name in ANSWERS:
-        yield name, "crates/packing/src/lib.rt", constant(name)
-        yield name, "crates/packing/specs/Numbers.antt", definition(name.replace("_", "-"))
+        yield name, CODE, constant(name)
+        yield name, SPECS, definition(name.replace("_", "-"))
+    for name in REFUSALS:
+        yield "REFUSED_" + name, CODE, constant(name)
     for name in "SIZE WIDTH TABLE KIND FIELD FIT LIMIT".split():
-        yield name, "crates/checker/src/lib.rt", constant(name)
-        yield name, "crates/checker/specs/Demands.antt", demand(name)
-    for name in "CHECK LAYOUT".split():
-        yield name, "crates/reader/src/lib.rt", constant(name)
-        yield name, "crates/blocks/specs/File.antt", definition(name)
-    yield "ASK", "crates/explain/src/lib.rt", constant("ASK")
-    yield "ASK", "crates/explain/specs/Promise.antt", definition("ASK")
-    yield "EMPTY", "crates/cause/src/lib.rt", constant("EMPTY")
-    for name in "STRIDE FIELDS".split():
-        yield name, "crates/checker/src/lib.rt", constant(name)
-        yield name, "crates/checker/specs/Lent.antt", definition(name.lower())
-    for name in "WORDS RULES GUESSES".split():
-        yield name, "crates/checker/src/lib.rt", constant(name)
-    yield "WORDS", "crates/rules/specs/ProperProblem.antt", definition("most-words")
-    yield "RULES", "crates/rules/specs/ProperProblem.antt", definition("most-rules")
-    yield "GUESSES", "crates/checker/specs/Demands.antt", definition("most-guesses")
+        yield "REFUSED_" + name, SPECS, demand(name)
+    for name in "CHECK LAYOUT ASK".split():
+        yield "REFUSED_" + name, SPECS, definition(name)
+    for name, code, spec in (
+        ("WORD_NUMBERS", "STRIDE", "stride"),
+        ("RULE_BYTES", "FIELDS", "fields"),
+        ("MAX_WORDS", "WORDS", "most-words"),
+        ("MAX_RULES", "RULES", "most-rules"),
+        ("MAX_LIMIT", "GUESSES", "most-guesses"),
+    ):
+        yield name, CODE, public(code)
+        yield name, SPECS, definition(spec)
+    yield "MAX_WIDTH", CODE, r"\bone_to\((\d+), w\)"
+    yield "MAX_WIDTH", SPECS, r"^isWidth w = oneTo (\d+) w$"
+    yield "MAX_WIDTH", SPECS, r"^  pub high : w ≤ (\d+)$"
     for name in "TIGHTEN SOLVE CAUSE".split():
         yield name + "_WORK", f"crates/{name.lower()}/src/lib.rt", constant("WORK")
         yield name + "_WORK", f"crates/{name.lower()}/specs/Promise.antt", definition("workLength")
@@ -119,13 +128,15 @@ def places():
     yield "LINES_BYTES", "crates/report/specs/Printed.antt", definition("most")
     yield "BLOCK_BYTES", "crates/blocks/specs/File.antt", r"^blockAt f i = part f \(\d+ \* i\) (\d+)$"
     for name in "RABS":
-        yield "PLACE_" + name, "crates/reasons/specs/Reason.antt", definition("placeNo " + name)
+        yield "PLACE_" + name, SPECS, definition("placeNo " + name)
 
 
 def listed(tally, path, pattern):
-    """The kinds in the order in which a file lists them."""
-    names = re.findall(pattern, text_of(path), re.M)
-    tally.same(f"kinds of {path}", names, KINDS)
+    """The kinds in the order in which a file, the one of its name, lists them."""
+    found = glob.glob(path)
+    tally.same(f"there is one {path}", len(found), 1)
+    for file in found:
+        tally.same(f"kinds of {file}", re.findall(pattern, text_of(file), re.M), KINDS)
 
 
 def number_at(tally, name, path, pattern):
@@ -143,12 +154,12 @@ def bit_of(tally, name, factor):
 
 
 def shifts(tally):
-    """The bits at which count, entries or words, and rules begin."""
+    """The bits at which the detail, entries or words, and rules begin: the factors of the second and third part, and of the rules in the third."""
     path = "crates/packing/specs/Packed.antt"
-    count = number_at(tally, "count", path, r"^packed p = p \.number \+ (\d+) \* p \.count \+ \d+ \* p \.more$")
-    more = number_at(tally, "more", path, r"^packed p = p \.number \+ \d+ \* p \.count \+ (\d+) \* p \.more$")
-    rules = more * number_at(tally, "rules", path, r"\(x \.words \+ (\d+) \* x \.rules\)$")
-    for name, factor in (("COUNT_SHIFT", count), ("MORE_SHIFT", more), ("RULES_SHIFT", rules)):
+    detail = number_at(tally, "detail", path, r"^packed p = p \.number \+ (\d+) \* p \.\w+ \+ \d+ \* p \.\w+$")
+    entries = number_at(tally, "entries", path, r"^packed p = p \.number \+ \d+ \* p \.\w+ \+ (\d+) \* p \.\w+$")
+    rules = entries * number_at(tally, "rules", path, r"\(x \.words \+ (\d+) \* x \.rules\)$")
+    for name, factor in (("DETAIL_SHIFT", detail), ("ENTRIES_SHIFT", entries), ("WORDS_SHIFT", entries), ("RULES_SHIFT", rules)):
         yield name, bit_of(tally, name, factor)
 
 
@@ -161,15 +172,15 @@ def in_crates(tally):
             tally.same(f"{name} of {path}", number, wanted[name])
         else:
             wanted[name] = number
-    listed(tally, "crates/rules/specs/Kinds.antt", r"(?:op|rel) ([A-Z]+) ∷")
-    listed(tally, "crates/checker/src/rows.rt", r"^    \[[\d, ]+\], // ([A-Z]+)$")
+    listed(tally, "crates/*/specs/Kinds.antt", r"(?:op|rel) ([A-Z]+) ∷")
+    listed(tally, "crates/*/src/rows.rt", r"^    \[[\d, ]+\], // ([A-Z]+)$")
     wanted.update(("KIND_" + kind, i) for i, kind in enumerate(KINDS, 1))
     wanted.update(shifts(tally))
     tally.same("advise asks for the work memory of cause", "work.len() < cause::WORK " in text_of("crates/report/src/lib.rt"), True)
     wanted["ADVISE_WORK"] = wanted["CAUSE_WORK"]
-    wanted["READ_WORDS"] = wanted["STRIDE"] * wanted["WORDS"]
-    wanted["READ_RULES"] = wanted["FIELDS"] * wanted["RULES"]
-    wanted["FILE_BYTES"] = wanted["BLOCK_BYTES"] * number_at(tally, "blocks", "crates/blocks/specs/Edition.antt", r"^  blocks = (\d+);$")
+    wanted["READ_NUMBERS"] = wanted["WORD_NUMBERS"] * wanted["MAX_WORDS"]
+    wanted["READ_BYTES"] = wanted["RULE_BYTES"] * wanted["MAX_RULES"]
+    wanted["MAX_FILE_BYTES"] = wanted["BLOCK_BYTES"] * number_at(tally, "blocks", "crates/blocks/specs/Edition.antt", r"^  blocks = (\d+);$")
     return wanted
 
 
@@ -210,6 +221,56 @@ def numbers(tally):
     wanted = in_crates(tally)
     compare_numbers(tally, HEADER, IN_HEADER, wanted)
     compare_numbers(tally, WRAPPER, IN_WRAPPER, wanted, NOT_WRAPPED)
+
+
+# ---- texts
+
+# a refusal's text in the header, and in the wrapper: its name, then itself; that of any other number has no name
+TEXT_IN_HEADER = r'(?:case SIEVECREST_REFUSED_(\w+)|default):\s*return "([^"]*)";'
+TEXT_IN_WRAPPER = r'(?:REFUSED_(\w+)|_) =>\s*(?:\{\s*)?"([^"]*)"'
+
+
+def part_of(path, begin, end):
+    """The text of a file from a line's beginning to an end; empty, so that nothing is found in it, where there is no such part."""
+    match = re.search(rf"^{begin}.*?{end}", text_of(path), re.M | re.S)
+    return match.group() if match else ""
+
+
+def texts_apart(one, other):
+    """The refusals whose texts differ or are missing or said twice in one of two parts, each with its pattern; all of them where nothing is found."""
+    given = [sorted(re.findall(pattern, text)) for text, pattern in (one, other)]
+    names = [x for x, _ in given[0] + given[1]]
+    return sorted(x for x in {"", *REFUSALS, *names} if names.count(x) != 2 or dict(given[0]).get(x) != dict(given[1]).get(x))
+
+
+def compare_texts(tally):
+    """Header and wrapper have one text for each refusal, and none could be another one unseen."""
+    header = part_of(HEADER, r"static inline const char \*sievecrest_refusal_text\(", r"\n}"), TEXT_IN_HEADER
+    wrapper = part_of(WRAPPED_TEXTS, r"    pub fn text\(&self\)", r"\n    }"), TEXT_IN_WRAPPER
+    apart = texts_apart(header, wrapper)
+    for name in ["", *REFUSALS]:
+        tally.same(f"the text of {name or 'no refusal'} differs in {HEADER} and {WRAPPED_TEXTS}", name in apart, False)
+    tally.same("other names with a text", [x for x in apart if x and x not in REFUSALS], [])
+    for text, pattern in (header, wrapper):
+        for match in re.finditer(pattern, text):
+            name, at = match.group(1) or "", match.start(2)
+            copies = (text[:at] + "x" + text[at:], text[: match.start()] + text[match.end() :])
+            unseen = [copy for copy in copies if name not in texts_apart((copy, pattern), wrapper if pattern == TEXT_IN_HEADER else header)]
+            tally.same(f"the text of {name or 'no refusal'}, altered or taken out, is reported", len(unseen), 0)
+
+
+def compare_versions(tally):
+    """The header names the version of the wrapper."""
+    header = re.findall(r'^#define SIEVECREST_VERSION "(\d+\.\d+\.\d+)"$', text_of(HEADER), re.M)
+    wrapper = re.findall(r'^version = "(\d+\.\d+\.\d+)"$', text_of("rust/Cargo.toml"), re.M)
+    tally.same("one version in the header", len(header), 1)
+    tally.same("the version of rust/Cargo.toml", wrapper, header)
+
+
+def texts(tally):
+    progress("the texts of refusals and the version in header and wrapper")
+    compare_texts(tally)
+    compare_versions(tally)
 
 
 # ---- C
@@ -272,7 +333,7 @@ def from_c(tally, folder):
     tally.same(f"{WORKED} is the example of {HEADER}", text_of(WORKED), text)
     worked(tally, ["cc", "-std=c99"], "worked", folder, printed)
     calls(tally, folder)
-    worked(tally, ["c++", "-std=c++11", "-x", "c++"], "worked-c++", folder, printed)
+    worked(tally, ["c++", "-std=c++11", "-Wold-style-cast", "-x", "c++"], "worked-c++", folder, printed)
 
 
 # ---- Rust
@@ -307,11 +368,12 @@ def files():
 
 
 def from_rust(tally, folder, program):
-    progress("the tests of the wrapper in rust/")
+    progress("the tests and the pages of the wrapper in rust/")
     tests = cargo(tally, folder, "test")
     counts = [tuple(map(int, x)) for x in re.findall(r"^test result: \w+\. (\d+) passed; (\d+) failed;", tests, re.M)]
     tally.add(sum(x for x, _ in counts), sum(x for _, x in counts))
     tally.same("tests were run in rust/", any(x for x, _ in counts), True)
+    cargo(tally, folder, "doc", "--no-deps")
     progress("the wrapper's example beside the adviser program")
     cargo(tally, folder, "build", "--example", "advise")
     advise = os.path.abspath("target/rust/release/examples/advise")
@@ -335,6 +397,7 @@ def main():
             stop(f"{tool} is missing; install the package {package}")
     tally = Tally()
     numbers(tally)
+    texts(tally)
     folder = library()
     from_c(tally, folder)
     from_rust(tally, folder, os.path.abspath(sys.argv[1]))

@@ -1,7 +1,7 @@
 //! Prints the adviser program's lines for a block file, FILE or standard input, as they follow from `Problem::read`, `solve` and `cause`.
 //! Then it asks the call `advise` too: exit status 1 where its lines differ, 2 where the file cannot be read.
 
-use sievecrest::numbers::FILE_BYTES;
+use sievecrest::numbers::MAX_FILE_BYTES;
 use sievecrest::{advise, Caused, Problem, Refusal, Solved};
 use std::fs::File;
 use std::io::{stdin, stdout, Read, Write};
@@ -15,7 +15,7 @@ fn fail(what: &str, status: i32) -> ! {
 /// One byte more than the longest file is enough to be refused for its length.
 fn bytes(from: impl Read) -> std::io::Result<Vec<u8>> {
     let mut bytes = Vec::new();
-    from.take(FILE_BYTES as u64 + 1).read_to_end(&mut bytes)?;
+    from.take(MAX_FILE_BYTES as u64 + 1).read_to_end(&mut bytes)?;
     Ok(bytes)
 }
 

@@ -95,10 +95,10 @@ pub enum Explained {
     Free,
 }
 
-/// Which rules are in the way.
+/// Which rules conflict.
 #[derive(Clone, Debug, PartialEq, Eq)]
 pub enum Caused {
-    /// There are settings, so nothing is in the way.
+    /// There are settings, so there is no cause.
     Exists {
         /// The guesses of the one search made.
         count: u64,

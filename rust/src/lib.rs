@@ -1,5 +1,5 @@
 //! Advises board makers on setup registers: given the words of a chip's registers, the bits that the board has fixed and the rules between
-//! them, it gives the first settings in word order, or says that there are none and names the rules in the way.
+//! them, it gives the first settings in word order, or says that there are none and names conflicting rules.
 //!
 //! The calls are those of the proved library libsievecrest.a, which also decides what is refused. This crate adds types, lends memory of
 //! the right lengths, and checks nothing that the library checks.
@@ -18,7 +18,7 @@
 //! };
 //! assert_eq!(board.solve()?, Solved::Found { settings: vec![2, 1, 3], count: 2 });
 //!
-//! // The board ties bit 1 of word 0 low, and word 1 is left without a value; both rules are in the way.
+//! // The board ties bit 1 of word 0 low, and word 1 is left without a value: the two rules conflict.
 //! board.words[0] = Word::bounds(2, 0, 1);
 //! assert_eq!(board.tighten()?, Tightened::Conflict);
 //! assert_eq!(board.solve()?, Solved::None { count: 0 });
@@ -34,8 +34,8 @@
 //! # Stack
 //!
 //! The search of [`Problem::solve`], [`Problem::cause`] and [`advise`] calls itself once for each level of guesses, of which there are at
-//! most 2,048, and then takes somewhat more than half a mebibyte of stack. Give a thread one mebibyte; Rust's own default is two. A stack
-//! that is too small ends the process, as with any recursion.
+//! most 2,048. A stack of one mebibyte was enough on the boards measured, the deepest of which took somewhat more than half of it; Rust's
+//! own default for a thread is two. A stack that is too small ends the process, as with any recursion.
 //!
 //! # Panics
 //!

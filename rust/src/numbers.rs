@@ -1,31 +1,32 @@
-//! The numbers of the library's interface: refusals, answers, how an answer is packed, and the lengths of what is lent.
+//! The numbers of the library's interface: refusals, answers, how a returned number is made, the most of each, and the lengths of what is
+//! lent.
 //!
-//! Each stands on one line, as it stands in the library's own sources, so that a test can compare the two.
+//! Each stands on one line, under the name that the C header has for it, so that a test can compare both with the library's own sources.
 
 // Refusals. All are below 32.
 
 /// More than 32 words or 252 rules, a file that is not 1 to 7 blocks long, or lent memory that is too short.
-pub const SIZE: u64 = 1;
+pub const REFUSED_SIZE: u64 = 1;
 /// A block's sum.
-pub const CHECK: u64 = 2;
+pub const REFUSED_CHECK: u64 = 2;
 /// Any other fault in the blocks of a file.
-pub const LAYOUT: u64 = 3;
+pub const REFUSED_LAYOUT: u64 = 3;
 /// A width that is not 1 to 64.
-pub const WIDTH: u64 = 4;
-/// Bounds that are none.
-pub const TABLE: u64 = 5;
+pub const REFUSED_WIDTH: u64 = 4;
+/// A lo with a 1 where hi has 0, or a bound that is wider than the word.
+pub const REFUSED_TABLE: u64 = 5;
 /// A kind that is not 1 to 14.
-pub const KIND: u64 = 6;
+pub const REFUSED_KIND: u64 = 6;
 /// A word number that is not below the word count, or an unused field that is not 0.
-pub const FIELD: u64 = 7;
+pub const REFUSED_FIELD: u64 = 7;
 /// Widths, or k, that do not fit.
-pub const FIT: u64 = 8;
+pub const REFUSED_FIT: u64 = 8;
 /// A limit over 1,000,000.
-pub const LIMIT: u64 = 9;
+pub const REFUSED_LIMIT: u64 = 9;
 /// A question for an explanation that names no open bit at a place of a rule.
-pub const ASK: u64 = 10;
-/// A cause without any rule.
-pub const EMPTY: u64 = 11;
+pub const REFUSED_ASK: u64 = 10;
+/// A cause without any rule, which is proved never to come.
+pub const REFUSED_EMPTY: u64 = 11;
 
 // Answers.
 
@@ -47,42 +48,52 @@ pub const FORCED: u64 = 38;
 pub const FREE: u64 = 39;
 /// A cause is asked where settings exist.
 pub const EXISTS: u64 = 40;
-/// The rules that are in the way.
+/// Conflicting rules.
 pub const CAUSE: u64 = 41;
 
-// How an answer is packed into one number: its own number below COUNT_SHIFT.
+// The bits of a returned number at which its parts begin, after the answer's own number.
 
-/// From this bit on: the place of a refusal, a count, a value, a limit or a length.
-pub const COUNT_SHIFT: u32 = 8;
-/// From this bit on: the entries of a reason or a cause, or the words of a problem that was read.
-pub const MORE_SHIFT: u32 = 40;
-/// From this bit on: the rules of a problem that was read.
+/// The detail: the place of a refusal, a count, a value, a limit or a length, by the answer.
+pub const DETAIL_SHIFT: u32 = 8;
+/// The entries of a reason or a cause.
+pub const ENTRIES_SHIFT: u32 = 40;
+/// The words of a problem that was read.
+pub const WORDS_SHIFT: u32 = 40;
+/// The rules of a problem that was read.
 pub const RULES_SHIFT: u32 = 48;
 
-// A problem.
+// The most of each.
+
+/// Bits of a word.
+pub const MAX_WIDTH: u64 = 64;
+/// Words of a problem.
+pub const MAX_WORDS: usize = 32;
+/// Rules of a problem.
+pub const MAX_RULES: usize = 252;
+/// Guesses allowed.
+pub const MAX_LIMIT: u32 = 1000000;
+/// Bytes of a block file.
+pub const MAX_FILE_BYTES: usize = 3584;
+
+// What is lent: how a problem lies in memory, and the least length of each buffer whose length is fixed.
 
 /// Numbers a word: width, lo, hi.
-pub const STRIDE: usize = 3;
+pub const WORD_NUMBERS: usize = 3;
 /// Bytes a rule: kind, r, a, b, s, k.
-pub const FIELDS: usize = 6;
-/// The most words.
-pub const WORDS: usize = 32;
-/// The most rules.
-pub const RULES: usize = 252;
-/// The greatest limit.
-pub const GUESSES: u32 = 1000000;
-
-// Lengths of lent memory, in entries.
-
-/// Work memory of `tighten`.
+pub const RULE_BYTES: usize = 6;
+/// Work memory of `tighten`, in numbers.
 pub const TIGHTEN_WORK: usize = 320;
 /// Work memory of `solve`.
 pub const SOLVE_WORK: usize = 4608;
-/// Work memory of `cause`, and of `advise`.
+/// Work memory of `cause`.
 pub const CAUSE_WORK: usize = 5120;
-/// Entries of the list for a reason.
+/// Work memory of `advise`.
+pub const ADVISE_WORK: usize = 5120;
+/// Entries of the list for `explain`.
 pub const REASON_ENTRIES: usize = 193;
-/// Bytes of the lines of `advise`.
+/// Numbers for the words that `read` stores.
+pub const READ_NUMBERS: usize = 96;
+/// Bytes for the rules that `read` stores.
+pub const READ_BYTES: usize = 1512;
+/// Bytes for the lines of `advise`.
 pub const LINES_BYTES: usize = 2304;
-/// Bytes of the longest block file.
-pub const FILE_BYTES: usize = 3584;

@@ -1,7 +1,9 @@
 //! Problems, and the calls on them.
 
 use crate::answers::{Caused, Explained, Place, Solved, Tightened};
-use crate::numbers::{CAUSE_WORK, FIELDS, FILE_BYTES, LINES_BYTES, REASON_ENTRIES, RULES, SOLVE_WORK, STRIDE, TIGHTEN_WORK, WORDS};
+use crate::numbers::{
+    ADVISE_WORK, CAUSE_WORK, LINES_BYTES, MAX_FILE_BYTES, READ_BYTES, READ_NUMBERS, REASON_ENTRIES, SOLVE_WORK, TIGHTEN_WORK,
+};
 use crate::refusal::Refusal;
 use crate::rule::{self, Rule};
 use crate::word::{self, Word};
@@ -9,7 +11,7 @@ use crate::{decode, raw};
 
 /// Words, the rules between them, and how many guesses a search may make.
 ///
-/// A problem can hold what is none, as a rule that names no word. Every call looks at it before it works, and refuses the first fault.
+/// A problem can hold faults, as a rule that names no word. Every call looks at it before it works, and refuses the first fault.
 #[derive(Clone, Debug, Default, PartialEq, Eq, Hash)]
 pub struct Problem {
     /// At most 32. They order settings: of two settings the earlier has the smaller value in the first word where they differ.
@@ -21,7 +23,7 @@ pub struct Problem {
 }
 
 impl Problem {
-    /// Whether the problem is one: its first refusal, if there is any.
+    /// Whether the problem is proper: its first refusal, if there is any.
     pub fn check(&self) -> Result<(), Refusal> {
         decode::check(raw::check(&self.numbers(), &self.bytes(), self.limit))
     }
@@ -48,8 +50,8 @@ impl Problem {
         decode::explain(packed, &list)
     }
 
-    /// The rules that are in the way where there are no settings: from the last rule to the first, each is dropped if the rest still has
-    /// none. Each trial is a search of its own with the full limit.
+    /// Conflicting rules where there are no settings: from the last rule to the first, each is dropped if the rest still has none. What is
+    /// left is a minimal unsatisfiable subset. Each trial is a search of its own with the full limit.
     pub fn cause(&self) -> Result<Caused, Refusal> {
         let mut list = vec![0; self.rules.len()];
         let packed = raw::cause(&self.numbers(), &self.bytes(), self.limit, &mut list, &mut vec![0; CAUSE_WORK]);
@@ -58,15 +60,15 @@ impl Problem {
 
     /// The problem in the bytes of a block file.
     pub fn read(file: &[u8]) -> Result<Problem, Refusal> {
-        let mut numbers = [0; STRIDE * WORDS];
-        let mut bytes = [0; FIELDS * RULES];
+        let mut numbers = [0; READ_NUMBERS];
+        let mut bytes = [0; READ_BYTES];
         let packed = raw::read(file, &mut numbers, &mut bytes);
         decode::read(packed, &numbers, &bytes)
     }
 
     /// The bytes of the problem's block file.
     pub fn write(&self) -> Result<Vec<u8>, Refusal> {
-        let mut file = [0; FILE_BYTES];
+        let mut file = [0; MAX_FILE_BYTES];
         let packed = raw::write(&self.numbers(), &self.bytes(), self.limit, &mut file);
         decode::write(packed, &file)
     }
@@ -83,6 +85,6 @@ impl Problem {
 /// The lines that the adviser program prints for the bytes of a block file: settings, the cause where there are none, or a refusal.
 pub fn advise(file: &[u8]) -> Vec<u8> {
     let mut out = [0; LINES_BYTES];
-    let packed = raw::advise(file, &mut out, &mut vec![0; CAUSE_WORK]);
+    let packed = raw::advise(file, &mut out, &mut vec![0; ADVISE_WORK]);
     decode::advise(packed, &out)
 }

@@ -1,6 +1,6 @@
 //! Rules: a kind, the words that it speaks of, and an amount.
 
-use crate::numbers::FIELDS;
+use crate::numbers::RULE_BYTES;
 
 /// What a rule says. All numbers are unsigned.
 #[derive(Clone, Copy, Debug, PartialEq, Eq, Hash)]
@@ -68,7 +68,7 @@ impl Kind {
 
 /// A rule between words, which it names by their numbers in the problem.
 ///
-/// The constructors name the fields that a kind uses and leave the others 0. A rule can hold what is none, as kind 15; the calls refuse it.
+/// The constructors name the fields that a kind uses and leave the others 0. A rule can hold faults, as kind 15; the calls refuse them.
 #[derive(Clone, Copy, Debug, PartialEq, Eq, Hash)]
 pub struct Rule {
     /// The number of the kind, see [`Kind::number`].
@@ -161,7 +161,7 @@ impl Rule {
     }
 
     /// The rule as it is lent.
-    pub(crate) fn bytes(self) -> [u8; FIELDS] {
+    pub(crate) fn bytes(self) -> [u8; RULE_BYTES] {
         [self.kind, self.r, self.a, self.b, self.s, self.k]
     }
 }
@@ -173,7 +173,7 @@ pub(crate) fn bytes(rules: &[Rule]) -> Vec<u8> {
 
 /// Rules as they come back.
 pub(crate) fn rules(bytes: &[u8]) -> Vec<Rule> {
-    bytes.chunks_exact(FIELDS).map(|x| Rule { kind: x[0], r: x[1], a: x[2], b: x[3], s: x[4], k: x[5] }).collect()
+    bytes.chunks_exact(RULE_BYTES).map(|x| Rule { kind: x[0], r: x[1], a: x[2], b: x[3], s: x[4], k: x[5] }).collect()
 }
 
 #[cfg(test)]

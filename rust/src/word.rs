@@ -1,11 +1,11 @@
 //! Words: a width and two bounds.
 
-use crate::numbers::STRIDE;
+use crate::numbers::WORD_NUMBERS;
 
 /// A register or a part of one: its width, and what is known of its bits.
 ///
 /// A bit that is 1 in both bounds is fixed 1, 0 in both is fixed 0, and 0 in `lo` with 1 in `hi` is open. Bit 0 is the lowest. A word can
-/// hold what is none, as width 0; the calls refuse it.
+/// hold faults, as width 0; the calls refuse them.
 #[derive(Clone, Copy, Debug, PartialEq, Eq, Hash)]
 pub struct Word {
     /// 1 to 64.
@@ -43,7 +43,7 @@ impl Word {
     }
 
     /// The word as it is lent.
-    pub(crate) fn numbers(self) -> [u64; STRIDE] {
+    pub(crate) fn numbers(self) -> [u64; WORD_NUMBERS] {
         [self.width, self.lo, self.hi]
     }
 }
@@ -55,7 +55,7 @@ pub(crate) fn numbers(words: &[Word]) -> Vec<u64> {
 
 /// Words as they come back.
 pub(crate) fn words(numbers: &[u64]) -> Vec<Word> {
-    numbers.chunks_exact(STRIDE).map(|x| Word::bounds(x[0], x[1], x[2])).collect()
+    numbers.chunks_exact(WORD_NUMBERS).map(|x| Word::bounds(x[0], x[1], x[2])).collect()
 }
 
 #[cfg(test)]

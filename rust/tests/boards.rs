@@ -1,6 +1,6 @@
 //! The boards that the product's paper works by hand, A to L, through every call that they concern.
 
-use sievecrest::numbers::{FIT, GUESSES, LIMIT, RULES, SIZE, WORDS};
+use sievecrest::numbers::{MAX_LIMIT, MAX_RULES, MAX_WORDS, REFUSED_FIT, REFUSED_LIMIT, REFUSED_SIZE};
 use sievecrest::{advise, Caused, Explained, FixedBit, Place, Problem, Refusal, Rule, Solved, Tightened, Word};
 
 fn board(words: &[Word], rules: &[Rule], limit: u32) -> Problem {
@@ -65,7 +65,7 @@ fn c_sums_wrap_at_the_words_own_width() {
 
 #[test]
 fn d_a_word_that_differs_from_itself() {
-    let d = board(&[BIT], &[Rule::ne(0, 0)], GUESSES);
+    let d = board(&[BIT], &[Rule::ne(0, 0)], MAX_LIMIT);
     assert_eq!(d.tighten(), tight(&[BIT]));
     assert_eq!(d.solve(), Ok(Solved::None { count: 1 }));
     assert_eq!(d.cause(), Ok(Caused::Cause { rules: vec![0], count: 2 }));
@@ -77,7 +77,7 @@ fn d_a_word_that_differs_from_itself() {
 
 #[test]
 fn e_the_highest_open_bit_is_guessed() {
-    let e = board(&[Word::open(2), Word::fixed(2, 0)], &[Rule::ne(0, 1)], GUESSES);
+    let e = board(&[Word::open(2), Word::fixed(2, 0)], &[Rule::ne(0, 1)], MAX_LIMIT);
     assert_eq!(e.solve(), found(&[1, 0], 1));
 }
 
@@ -101,7 +101,7 @@ fn g_two_words_with_a_sum_and_an_order() {
 
 #[test]
 fn h_the_cause_is_not_every_rule_that_was_touched() {
-    let h = board(&[BIT, BIT], &[Rule::ult(0, 1), Rule::ult(0, 1), Rule::ne(0, 1), Rule::ult(1, 0)], GUESSES);
+    let h = board(&[BIT, BIT], &[Rule::ult(0, 1), Rule::ult(0, 1), Rule::ne(0, 1), Rule::ult(1, 0)], MAX_LIMIT);
     assert_eq!(h.tighten(), Ok(Tightened::Conflict));
     assert_eq!(h.solve(), Ok(Solved::None { count: 0 }));
     assert_eq!(h.cause(), Ok(Caused::Cause { rules: vec![0, 3], count: 0 }));
@@ -137,11 +137,11 @@ fn l_the_last_that_passes_and_the_first_that_is_refused() {
     let fixed = Word::fixed(1, 0);
     let four = [Word::open(4), Word::open(8)];
     let cases = [
-        (board(&[], &[], GUESSES), board(&[], &[], GUESSES + 1), LIMIT),
-        (board(&[fixed; WORDS], &[], 0), board(&[fixed; WORDS + 1], &[], 0), SIZE),
-        (board(&[fixed], &[Rule::ule(0, 0); RULES], 0), board(&[fixed], &[Rule::ule(0, 0); RULES + 1], 0), SIZE),
-        (board(&four, &[Rule::slice(0, 1, 4)], 0), board(&four, &[Rule::slice(0, 1, 5)], 0), FIT),
-        (board(&four, &[Rule::shl(0, 0, 3)], 0), board(&four, &[Rule::shl(0, 0, 4)], 0), FIT),
+        (board(&[], &[], MAX_LIMIT), board(&[], &[], MAX_LIMIT + 1), REFUSED_LIMIT),
+        (board(&[fixed; MAX_WORDS], &[], 0), board(&[fixed; MAX_WORDS + 1], &[], 0), REFUSED_SIZE),
+        (board(&[fixed], &[Rule::ule(0, 0); MAX_RULES], 0), board(&[fixed], &[Rule::ule(0, 0); MAX_RULES + 1], 0), REFUSED_SIZE),
+        (board(&four, &[Rule::slice(0, 1, 4)], 0), board(&four, &[Rule::slice(0, 1, 5)], 0), REFUSED_FIT),
+        (board(&four, &[Rule::shl(0, 0, 3)], 0), board(&four, &[Rule::shl(0, 0, 4)], 0), REFUSED_FIT),
     ];
     for (passes, refused, number) in cases {
         assert_eq!(passes.check(), Ok(()));
@@ -202,7 +202,7 @@ fn every_comparison_holds_or_is_a_conflict() {
 /// The deepest search there is, 2,048 levels, on the stack that the front page names.
 #[test]
 fn a_mebibyte_is_enough_for_the_deepest_search() {
-    let deepest = || board(&[Word::open(64); WORDS], &[Rule::ule(31, 31)], GUESSES).solve();
+    let deepest = || board(&[Word::open(64); MAX_WORDS], &[Rule::ule(31, 31)], MAX_LIMIT).solve();
     let thread = std::thread::Builder::new().stack_size(1 << 20).spawn(deepest).unwrap();
-    assert_eq!(thread.join().unwrap(), found(&[0; WORDS], 2048));
+    assert_eq!(thread.join().unwrap(), found(&[0; MAX_WORDS], 2048));
 }

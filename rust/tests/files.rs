@@ -1,6 +1,6 @@
 //! Problems written and read again, and files read and written again.
 
-use sievecrest::numbers::{FILE_BYTES, GUESSES, RULES, WORDS};
+use sievecrest::numbers::{MAX_FILE_BYTES, MAX_LIMIT, MAX_RULES, MAX_WORDS};
 use sievecrest::{Problem, Rule, Word};
 use std::path::Path;
 
@@ -8,16 +8,16 @@ use std::path::Path;
 fn sized(words: usize, rules: usize) -> Problem {
     let word = |i: usize| Word::bounds(64 - i as u64, 1 << (i % 4), 15);
     let rule = |i: usize| Rule::slice((i % words) as u8, 0, (i % words / 2) as u8);
-    Problem { words: (0..words).map(word).collect(), rules: (0..rules).map(rule).collect(), limit: GUESSES - rules as u32 }
+    Problem { words: (0..words).map(word).collect(), rules: (0..rules).map(rule).collect(), limit: MAX_LIMIT - rules as u32 }
 }
 
 #[test]
 fn what_is_written_reads_back_the_same() {
-    for (words, rules, blocks) in [(1, 0, 2), (21, 0, 2), (22, 1, 4), (32, 63, 4), (32, 64, 5), (WORDS, RULES, 7)] {
+    for (words, rules, blocks) in [(1, 0, 2), (21, 0, 2), (22, 1, 4), (32, 63, 4), (32, 64, 5), (MAX_WORDS, MAX_RULES, 7)] {
         let problem = sized(words, rules);
         let file = problem.write().unwrap();
         assert_eq!(file.len(), 512 * blocks);
-        assert!(file.len() <= FILE_BYTES);
+        assert!(file.len() <= MAX_FILE_BYTES);
         assert_eq!(Problem::read(&file), Ok(problem));
     }
 }

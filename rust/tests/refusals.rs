@@ -1,12 +1,15 @@
 //! Each refusal, with its number and place, of every call that has it; and what was given is as it was.
 
-use sievecrest::numbers::{ASK, CHECK, FIELD, FIT, GUESSES, KIND, LAYOUT, LIMIT, SIZE, TABLE, WIDTH};
+use sievecrest::numbers::{
+    MAX_LIMIT, REFUSED_ASK, REFUSED_CHECK, REFUSED_FIELD, REFUSED_FIT, REFUSED_KIND, REFUSED_LAYOUT, REFUSED_LIMIT, REFUSED_SIZE,
+    REFUSED_TABLE, REFUSED_WIDTH,
+};
 use sievecrest::{advise, Place, Problem, Refusal, Rule, Word};
 
 /// Three words and two rules, all proper; word 2 has width 1.
 fn proper() -> Problem {
     let words = vec![Word::open(4), Word::bounds(4, 8, 15), Word::open(1)];
-    Problem { words, rules: vec![Rule::add(0, 0, 1), Rule::ite(0, 0, 1, 2)], limit: GUESSES }
+    Problem { words, rules: vec![Rule::add(0, 0, 1), Rule::ite(0, 0, 1, 2)], limit: MAX_LIMIT }
 }
 
 fn with_word(word: Word) -> Problem {
@@ -24,24 +27,24 @@ fn with_rule(rule: Rule) -> Problem {
 /// Faulty problems with the refusal of each, all but that of a limit.
 fn faulty() -> Vec<(Problem, u64, u64)> {
     vec![
-        (Problem { words: vec![Word::open(1); 33], ..Problem::default() }, SIZE, 0),
-        (Problem { rules: vec![Rule::ne(0, 2); 253], ..proper() }, SIZE, 0),
-        (with_word(Word::open(0)), WIDTH, 1),
-        (with_word(Word::open(65)), WIDTH, 1),
-        (with_word(Word::open(u64::MAX)), WIDTH, 1),
-        (with_word(Word::bounds(4, 2, 13)), TABLE, 1),
-        (with_word(Word::fixed(4, 16)), TABLE, 1),
-        (with_word(Word::bounds(4, 0, u64::MAX)), TABLE, 1),
-        (with_rule(Rule { kind: 0, ..Rule::add(0, 0, 1) }), KIND, 1),
-        (with_rule(Rule { kind: 15, ..Rule::add(0, 0, 1) }), KIND, 1),
-        (with_rule(Rule::add(0, 0, 3)), FIELD, 1),
-        (with_rule(Rule::add(255, 0, 1)), FIELD, 1),
-        (with_rule(Rule { s: 2, ..Rule::add(0, 0, 1) }), FIELD, 1),
-        (with_rule(Rule { k: 1, ..Rule::ne(0, 1) }), FIELD, 1),
-        (with_rule(Rule::add(0, 1, 2)), FIT, 1),
-        (with_rule(Rule::ite(0, 0, 1, 1)), FIT, 1),
-        (with_rule(Rule::shr(0, 1, 4)), FIT, 1),
-        (with_rule(Rule::join(0, 1, 2)), FIT, 1),
+        (Problem { words: vec![Word::open(1); 33], ..Problem::default() }, REFUSED_SIZE, 0),
+        (Problem { rules: vec![Rule::ne(0, 2); 253], ..proper() }, REFUSED_SIZE, 0),
+        (with_word(Word::open(0)), REFUSED_WIDTH, 1),
+        (with_word(Word::open(65)), REFUSED_WIDTH, 1),
+        (with_word(Word::open(u64::MAX)), REFUSED_WIDTH, 1),
+        (with_word(Word::bounds(4, 2, 13)), REFUSED_TABLE, 1),
+        (with_word(Word::fixed(4, 16)), REFUSED_TABLE, 1),
+        (with_word(Word::bounds(4, 0, u64::MAX)), REFUSED_TABLE, 1),
+        (with_rule(Rule { kind: 0, ..Rule::add(0, 0, 1) }), REFUSED_KIND, 1),
+        (with_rule(Rule { kind: 15, ..Rule::add(0, 0, 1) }), REFUSED_KIND, 1),
+        (with_rule(Rule::add(0, 0, 3)), REFUSED_FIELD, 1),
+        (with_rule(Rule::add(255, 0, 1)), REFUSED_FIELD, 1),
+        (with_rule(Rule { s: 2, ..Rule::add(0, 0, 1) }), REFUSED_FIELD, 1),
+        (with_rule(Rule { k: 1, ..Rule::ne(0, 1) }), REFUSED_FIELD, 1),
+        (with_rule(Rule::add(0, 1, 2)), REFUSED_FIT, 1),
+        (with_rule(Rule::ite(0, 0, 1, 1)), REFUSED_FIT, 1),
+        (with_rule(Rule::shr(0, 1, 4)), REFUSED_FIT, 1),
+        (with_rule(Rule::join(0, 1, 2)), REFUSED_FIT, 1),
     ]
 }
 
@@ -71,7 +74,7 @@ fn answers_leave_the_problem_too() {
 #[test]
 fn a_limit_is_refused_by_the_calls_that_take_one() {
     let problem = Problem { limit: u32::MAX, ..proper() };
-    let refusal = Refusal { number: LIMIT, place: 0 };
+    let refusal = Refusal { number: REFUSED_LIMIT, place: 0 };
     assert_eq!(problem.check(), Err(refusal));
     assert_eq!(problem.solve(), Err(refusal));
     assert_eq!(problem.cause(), Err(refusal));
@@ -85,11 +88,11 @@ fn the_first_fault_is_refused() {
     let mut problem = with_word(Word::bounds(4, 2, 13));
     problem.rules = vec![Rule::add(0, 1, 2), Rule { kind: 0, ..Rule::ne(9, 9) }];
     problem.limit = u32::MAX;
-    assert_eq!(problem.check(), Err(Refusal { number: TABLE, place: 1 }));
+    assert_eq!(problem.check(), Err(Refusal { number: REFUSED_TABLE, place: 1 }));
     problem.words[1] = Word::open(4);
-    assert_eq!(problem.check(), Err(Refusal { number: FIT, place: 0 }));
+    assert_eq!(problem.check(), Err(Refusal { number: REFUSED_FIT, place: 0 }));
     problem.rules.remove(0);
-    assert_eq!(problem.check(), Err(Refusal { number: KIND, place: 0 }));
+    assert_eq!(problem.check(), Err(Refusal { number: REFUSED_KIND, place: 0 }));
 }
 
 #[test]
@@ -105,7 +108,11 @@ fn an_explanation_is_asked_for_an_open_bit() {
         (0, Place::B, u64::MAX),
     ];
     for (rule, place, bit) in asked {
-        assert_eq!(problem.explain(rule, place, bit), Err(Refusal { number: ASK, place: 0 }), "rule {rule}, place {place:?}, bit {bit}");
+        assert_eq!(
+            problem.explain(rule, place, bit),
+            Err(Refusal { number: REFUSED_ASK, place: 0 }),
+            "rule {rule}, place {place:?}, bit {bit}"
+        );
     }
     assert!(problem.explain(1, Place::S, 0).is_ok());
 }
@@ -137,20 +144,20 @@ fn sealed(block: usize, byte: usize, value: u8) -> Vec<u8> {
 fn every_refusal_of_a_file() {
     let whole = proper().write().unwrap();
     let cases = [
-        (vec![], SIZE, 0),
-        (whole[..BLOCK - 1].to_vec(), SIZE, 0),
-        (vec![0; 8 * BLOCK], SIZE, 0),
-        (altered(0, 9, 1), CHECK, 0),
-        (altered(2, 300, 1), CHECK, 2),
-        (sealed(1, 1, 2), LAYOUT, 1),
-        (sealed(2, 4, 1), LAYOUT, 2),
-        (whole[..2 * BLOCK].to_vec(), LAYOUT, 1),
-        (sealed(0, 8 + 24, 65), WIDTH, 1),
-        (sealed(0, 8 + 24 + 8, 16), TABLE, 1),
-        (sealed(1, 8 + 8, 15), KIND, 1),
-        (sealed(1, 8 + 8 + 1, 3), FIELD, 1),
-        (sealed(1, 8 + 8 + 1, 2), FIT, 1),
-        (sealed(2, 8 + 3, 255), LIMIT, 0),
+        (vec![], REFUSED_SIZE, 0),
+        (whole[..BLOCK - 1].to_vec(), REFUSED_SIZE, 0),
+        (vec![0; 8 * BLOCK], REFUSED_SIZE, 0),
+        (altered(0, 9, 1), REFUSED_CHECK, 0),
+        (altered(2, 300, 1), REFUSED_CHECK, 2),
+        (sealed(1, 1, 2), REFUSED_LAYOUT, 1),
+        (sealed(2, 4, 1), REFUSED_LAYOUT, 2),
+        (whole[..2 * BLOCK].to_vec(), REFUSED_LAYOUT, 1),
+        (sealed(0, 8 + 24, 65), REFUSED_WIDTH, 1),
+        (sealed(0, 8 + 24 + 8, 16), REFUSED_TABLE, 1),
+        (sealed(1, 8 + 8, 15), REFUSED_KIND, 1),
+        (sealed(1, 8 + 8 + 1, 3), REFUSED_FIELD, 1),
+        (sealed(1, 8 + 8 + 1, 2), REFUSED_FIT, 1),
+        (sealed(2, 8 + 3, 255), REFUSED_LIMIT, 0),
     ];
     for (file, number, place) in cases {
         assert_eq!(Problem::read(&file), Err(Refusal { number, place }));

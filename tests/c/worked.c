@@ -1,4 +1,4 @@
-// A clock generator with a crystal of 10 MHz: which multiplier gives an output within two bounds, and where none does, which rules are in the way?
+// A clock generator with a crystal of 10 MHz: which multiplier gives an output within two bounds, and where none does, which rules conflict?
 // There is no rule for products: ten times the multiplier is eight times and twice, by shifts and a sum.
 #include "sievecrest.h"
 #include <inttypes.h>
@@ -19,14 +19,14 @@ static const uint8_t rules[] = {
 static uint64_t work[SIEVECREST_CAUSE_WORK]; // enough for solve too
 
 static void print_cause(const uint64_t *words) {
-    uint16_t list[SIEVECREST_RULES];
-    uint64_t x = sievecrest_cause(words, 3 * WORDS, rules, sizeof rules, 1000, list, SIEVECREST_RULES, work, SIEVECREST_CAUSE_WORK);
+    uint16_t list[SIEVECREST_MAX_RULES];
+    uint64_t x = sievecrest_cause(words, 3 * WORDS, rules, sizeof rules, 1000, list, SIEVECREST_MAX_RULES, work, SIEVECREST_CAUSE_WORK);
     if (sievecrest_number(x) != SIEVECREST_CAUSE) {
         printf("no cause within the limit\n");
         return;
     }
-    printf("in the way are the rules");
-    for (uint32_t i = 0; i < sievecrest_entries(x); i++) printf(" %u", (unsigned)list[i]);
+    printf("conflicting rules");
+    for (uint32_t i = 0; i < sievecrest_entries(x); i++) printf(" %" PRIu16, list[i]);
     printf("\n");
 }
 
@@ -37,13 +37,13 @@ static void advise(uint64_t least, uint64_t most) {
     uint64_t x = sievecrest_solve(words, 3 * WORDS, rules, sizeof rules, 1000, model, WORDS, work, SIEVECREST_CAUSE_WORK);
     printf("%" PRIu64 " to %" PRIu64 " MHz: ", least, most);
     if (sievecrest_number(x) == SIEVECREST_FOUND)
-        printf("multiplier %" PRIu64 ", output %" PRIu64 " MHz, %u guesses\n", model[MULTIPLIER], model[OUTPUT], (unsigned)sievecrest_count(x));
+        printf("multiplier %" PRIu64 ", output %" PRIu64 " MHz, %" PRIu32 " guesses\n", model[MULTIPLIER], model[OUTPUT], sievecrest_count(x));
     else if (sievecrest_number(x) == SIEVECREST_NONE)
         print_cause(words);
     else if (sievecrest_number(x) == SIEVECREST_GAVE_UP)
-        printf("not decided within %u guesses\n", (unsigned)sievecrest_count(x));
+        printf("not decided within %" PRIu32 " guesses\n", sievecrest_count(x));
     else
-        printf("refused, %u at %u\n", (unsigned)sievecrest_number(x), (unsigned)sievecrest_place(x));
+        printf("refused at %" PRIu32 ": %s\n", sievecrest_place(x), sievecrest_refusal_text(sievecrest_number(x)));
 }
 
 int main(void) {
