@@ -200,12 +200,13 @@ uint64_t sievecrest_cause(const uint64_t *words, size_t words_len, const uint8_t
    by block, then WIDTH to LIMIT. */
 uint64_t sievecrest_read(const uint8_t *file, size_t file_len, uint64_t *words, size_t words_len, uint8_t *rules, size_t rules_len);
 
-/* Writes a problem as a block file. OK with the file's length in bytes, which stand at the beginning of `file`: 512 for each 21 words begun, 512 for each 63
-   rules begun, and 512; SIEVECREST_MAX_FILE_BYTES always do. Refusals as of check; SIZE also where file_len is below the file's own length. */
+/* Writes a problem as a block file. OK with the file's length in bytes, which stand at the beginning of `file`: 512 for every 21 words or part of 21, 512 for
+   every 63 rules or part of 63, and 512 for the end; SIEVECREST_MAX_FILE_BYTES are always enough. Refusals as of check; SIZE also where file_len is below the
+   file's own length. */
 uint64_t sievecrest_write(const uint64_t *words, size_t words_len, const uint8_t *rules, size_t rules_len, uint32_t limit, uint8_t *file, size_t file_len);
 
-/* Advises on a block file, as the adviser program does. OK with the length in bytes of the lines, which stand at the beginning of `out`; a file that is refused
-   is OK too, and its line says so. SIZE where out_len < SIEVECREST_LINES_BYTES or work_len < SIEVECREST_ADVISE_WORK. */
+/* Advises on a block file, as the adviser program does. OK with the length in bytes of the lines, which stand at the beginning of `out`; for a file that is
+   refused the answer is OK too, and its line says so. SIZE where out_len < SIEVECREST_LINES_BYTES or work_len < SIEVECREST_ADVISE_WORK. */
 uint64_t sievecrest_advise(const uint8_t *file, size_t file_len, uint8_t *out, size_t out_len, uint64_t *work, size_t work_len);
 
 #ifdef __cplusplus

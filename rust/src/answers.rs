@@ -67,7 +67,7 @@ pub struct FixedBit {
 }
 
 impl FixedBit {
-    /// The bit of an entry, which is 64 times place plus bit; none where there is no such place.
+    /// The bit of an entry, which is 64 times place plus bit; `None` where there is no such place.
     pub(crate) fn of(entry: u16) -> Option<FixedBit> {
         let place = *Place::ALL.get(usize::from(entry / 64))?;
         Some(FixedBit { place, bit: u64::from(entry % 64) })
@@ -76,7 +76,7 @@ impl FixedBit {
 
 /// What a rule says of one of its open bits.
 ///
-/// The bits of a reason alone give the same answer, and with any one of them opened it does not stay. A reason may be empty.
+/// The bits of a reason alone give the same answer, and with any one of them opened the answer changes. A reason may be empty.
 #[derive(Clone, Debug, PartialEq, Eq)]
 pub enum Explained {
     /// The rule has no fit.

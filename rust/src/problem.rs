@@ -28,7 +28,7 @@ impl Problem {
         decode::check(raw::check(&self.numbers(), &self.bytes(), self.limit))
     }
 
-    /// The widest table in which every bit that a single rule forces is fixed. The limit plays no part.
+    /// The widest tight table: every bit that a single rule forces is fixed. The limit is not used.
     pub fn tighten(&self) -> Result<Tightened, Refusal> {
         let mut numbers = self.numbers();
         let packed = raw::tighten(&mut numbers, &self.bytes(), &mut [0; TIGHTEN_WORK]);
@@ -43,7 +43,7 @@ impl Problem {
     }
 
     /// What one rule says of an open bit at one of its places, and why, over the words as they are: tighten first if that is the table you
-    /// mean. The limit plays no part.
+    /// mean. The limit is not used.
     pub fn explain(&self, rule: usize, place: Place, bit: u64) -> Result<Explained, Refusal> {
         let mut list = [0; REASON_ENTRIES];
         let packed = raw::explain(&self.numbers(), &self.bytes(), rule as u64, place.number().into(), bit, &mut list);

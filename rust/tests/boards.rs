@@ -199,9 +199,9 @@ fn every_comparison_holds_or_is_a_conflict() {
     }
 }
 
-/// The deepest search there is, 2,048 levels, on the stack that the front page names.
+/// A search of 2,048 levels, the most there are, on the stack that the front page names.
 #[test]
-fn a_mebibyte_is_enough_for_the_deepest_search() {
+fn a_mebibyte_was_enough_for_2048_levels() {
     let deepest = || board(&[Word::open(64); MAX_WORDS], &[Rule::ule(31, 31)], MAX_LIMIT).solve();
     let thread = std::thread::Builder::new().stack_size(1 << 20).spawn(deepest).unwrap();
     assert_eq!(thread.join().unwrap(), found(&[0; MAX_WORDS], 2048));
