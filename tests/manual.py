@@ -19,6 +19,8 @@ A comment `<!-- prints: BOARD, s/OLD/NEW/: LINE; LINE -->` holds a paragraph to 
 `<!-- returned -->` and `<!-- damaged: BOARD -->` stand before tables of returned numbers and of damaged files. A block that is none of these is a failure.
 
 That the test can fail is tried: in a copy of each page every text that was compared is altered at its end, and each must be reported.
+
+Beside the pages, docs/layers.svg is held to what tools/layers.py makes of crates.txt, and README.md's table of crates to crates.txt.
 """
 import os
 import re
@@ -26,7 +28,7 @@ import subprocess
 import sys
 import tempfile
 
-from pages import bits, boards, library, programs, text
+from pages import bits, boards, layers, library, programs, text
 from pages.page import Block, Fault, Page, board, scratch
 
 PAGES = ["docs/MANUAL.md", "README.md", "examples/README.md", "rust/README.md"]
@@ -127,7 +129,7 @@ def main():
             stop(f"there is no {path}; {hint}")
     if not library.build():
         stop("tests/c/ask.c cannot be built; the messages above say why")
-    passed = failed = 0
+    passed, failed = layers.checked() if len(sys.argv) == 1 else (0, 0)
     for path in sys.argv[1:] or PAGES:
         with open(path, encoding="utf-8") as file:
             page = run_page(path, file.read())
