@@ -4,3 +4,4 @@ pub mod Trimming
 pub mod Calling
 pub mod Once
 pub mod Naming
+pub mod Ascending

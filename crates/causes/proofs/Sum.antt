@@ -48,6 +48,6 @@ trims-named decided = omega arith
 trims-named (spared s r) = omega (arith, trims-named r)
 trims-named (needed s r) = omega (arith, trims-named r)
 
--- each rule is named once at most
+-- no more rules are named than there are (that none is named twice: Ascending)
 pub named-rules : {w : List ℕ} {rs : List Rule} {limit : ℕ} {t : Table} {g : ℕ} {out : List ℕ} → Causes w rs limit t (CAUSE out g) → length out ≤ length rs
 named-rules (trimmed s r) = omega (arith, trims-named r)
