@@ -4,4 +4,5 @@ pub mod Irreducible
 pub mod Ascending
 pub mod Sum
 pub mod Named
+pub mod Every
 pub mod Trials
