@@ -1,9 +1,12 @@
--- Every row of the table of boards follows from the definitions.
+-- Every row of the table of boards follows from the definitions, and nothing that it asks is refused.
 use mathlib.Core.Path.{_≡_, refl, subst}
 use lib.Dec.{T}
+use Rattle.words.specs.Bits.{bit}
 use Rattle.rules.specs.Kinds.{kindOf}
 use Rattle.lists.specs.Every.{All}
 use Rattle.rules.proofs.Steps.{tightened}
+use Rattle.checker.specs.Tests.{sized, areFields, isFitting}
+use Rattle.checker.specs.Refusal.{firstOf, wordRefusal, ruleRefusal, refusal, refusalWith}
 use Rattle.search.proofs.Solved.{solved}
 use Rattle.search.proofs.TheCeiling.{some-ceiling}
 use Rattle.reasons.proofs.Explained.{explained}
@@ -12,10 +15,11 @@ use Rattle.blocks.specs.Bytes.{le}
 use Rattle.lists.specs.Lists.{zeros, flat, total}
 use Rattle.blocks.specs.Block.{sum}
 use Rattle.blocks.specs.Written.{seal, blocksFor, headed, block, blocksOf, fileOf, encode}
-use Rattle.boards.specs.Row.{Follows}
+use Rattle.boards.specs.Row.{Follows, Checks}
 use Rattle.boards.specs.Boards.{boards}
 use Rattle.boards.proofs.Sound.{legalb}
 use Rattle.boards.proofs.Computed.{allSound, computed, computedAll, all-follow}
+use Rattle.boards.proofs.Checks.{allChecked, all-check}
 
 boards-sound : T (allSound boards)
 unfolding legalb kindOf tightened
@@ -28,3 +32,11 @@ boards-computed = refl
 
 pub boards-follow : All Follows boards
 boards-follow = subst (All Follows) boards-computed (all-follow boards boards-sound)
+
+boards-pass : T (allChecked boards)
+unfolding refusalWith refusal firstOf wordRefusal ruleRefusal sized areFields isFitting kindOf bit
+boards-pass = tt
+
+-- so each row speaks of a problem, and of a question, that the calls take
+pub boards-checked : All Checks boards
+boards-checked = all-check boards boards-pass

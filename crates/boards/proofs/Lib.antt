@@ -1,4 +1,5 @@
 pub mod Sound
 pub mod Computed
+pub mod Checks
 pub mod Boards
 pub mod Rises

@@ -1,13 +1,17 @@
 -- A row of the table of boards, and what it says.
 use mathlib.Core.Path.{_≡_}
 use mathlib.Core.List.{List, [], _∷_}
-use Prim.Native.Nat.{ℕ}
-use lib.ListN.{drop}
-use Rattle.words.specs.Table.{Table}
-use Rattle.lists.specs.Lists.{at}
-use Rattle.rules.specs.Kinds.{Place}
-use Rattle.rules.specs.Tight.{Rule, rule, shape, span, Tight}
+use Prim.Native.Nat.{ℕ, _<_}
+use lib.Dec.{T}
+use lib.ListN.{length, drop}
+use Rattle.words.specs.Table.{Table, at, Open}
+use Rattle.rules.specs.Kinds.{Place, kindOf}
+use Rattle.rules.specs.Rows.{uses}
+use Rattle.rules.specs.Tight.{Rule, rule, word, shape, span, Tight}
 use Rattle.rules.specs.Tightening.{Widest}
+use Rattle.checker.specs.declared.Checked.{Checked}
+use Rattle.checker.specs.declared.Checked.the-variants.{Ok}
+use Rattle.checker.specs.Refusal.{refusal, refusalWith}
 use Rattle.search.specs.Search.{Outcome, Search}
 use Rattle.search.specs.Ceiling.{Ceiling}
 use Rattle.reasons.specs.Says.{Answer}
@@ -57,3 +61,24 @@ Follows (ceiling p c) = (u : Table) × Widest (Tight (p .widths) (p .rules)) (ta
 Follows (explain p n q j x out) = Explains (shape (p .widths) (rule (p .rules) n)) (span (table p) (rule (p .rules) n)) q j x out
 Follows (cause p limit x) = Causes (p .widths) (p .rules) limit (table p) x
 Follows (file p limit f) = f ≡ bytesOf p limit
+
+-- what `check` answers of a problem, with a limit and without one
+abbrev pub checkWith : Problem → ℕ → Checked
+checkWith p limit = refusalWith limit (lentWords (p .widths) (p .lo) (p .hi)) (lentRules (p .rules))
+
+abbrev pub checkOf : Problem → Checked
+checkOf p = refusal (lentWords (p .widths) (p .lo) (p .hi)) (lentRules (p .rules))
+
+-- there is a rule n, it uses the place, and bit j there is open
+pub record AsksOpen (p : Problem) (n : ℕ) (q : Place) (j : ℕ) : Type 0 where
+  pub there : n < length (p .rules)
+  pub used : T (uses (kindOf (rule (p .rules) n .kind)) q)
+  pub open-bit : Open (table p) (word (rule (p .rules) n) q) j
+
+-- nothing that a row asks is refused: `check` passes its problem, and a question is about an open bit
+abbrev pub Checks : Row → Type 0
+Checks (solve p limit o) = checkWith p limit ≡ Ok
+Checks (ceiling p c) = checkOf p ≡ Ok
+Checks (explain p n q j x out) = (checkOf p ≡ Ok) × AsksOpen p n q j
+Checks (cause p limit x) = checkWith p limit ≡ Ok
+Checks (file p limit f) = checkWith p limit ≡ Ok
