@@ -63,11 +63,11 @@ abbrev boardF : Problem
 boardF = problem (2 ∷ 2 ∷ 2 ∷ []) (0 ∷ 0 ∷ 3 ∷ []) (3 ∷ 3 ∷ 3 ∷ []) (add 2 0 1 ∷ [])
 
 -- G: F with word 1 at most word 0
-abbrev boardG : Problem
+abbrev pub boardG : Problem
 boardG = problem (2 ∷ 2 ∷ 2 ∷ []) (0 ∷ 0 ∷ 3 ∷ []) (3 ∷ 3 ∷ 3 ∷ []) (add 2 0 1 ∷ ule 1 0 ∷ [])
 
 -- H: width 1, words 0 and 1 open, four rules
-abbrev boardH : Problem
+abbrev pub boardH : Problem
 boardH = problem (1 ∷ 1 ∷ []) (0 ∷ 0 ∷ []) (1 ∷ 1 ∷ []) (ult 0 1 ∷ ult 0 1 ∷ ne 0 1 ∷ ult 1 0 ∷ [])
 
 -- I: width 4, a lo 8 hi 15, b open, a at most b

@@ -3,7 +3,6 @@ pub mod Puts
 pub mod Digits
 pub mod Reports
 pub mod Once
-pub mod Cases
 pub mod Telling
 pub mod Naming
 pub mod Advising

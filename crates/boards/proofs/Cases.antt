@@ -1,0 +1,86 @@
+-- The files of boards G and H make `advise` put the lines that the paper has, byte by byte.
+use mathlib.Core.Path.{_≡_, refl}
+use mathlib.Core.Bool.{Bool, true, _&&_}
+use mathlib.Core.List.{List, [], _∷_, _++_}
+use Prim.Native.Nat.{ℕ, zero, suc, _<_}
+use native.Mathlib.Omega.{arith}
+use lib.Dec.{T, ltb, ltb→lt}
+use lib.ListN.{length, drop, getD}
+use Rattle.words.specs.Bits.{bit}
+use Rattle.rules.proofs.Lists.{All}
+use Rattle.rules.proofs.FitTest.{both}
+use Rattle.checker.specs.declared.Checked.the-variants.{Ok}
+use Rattle.checker.specs.Lent.{series}
+use Rattle.tighten.specs.Memory.{Cleared}
+use Rattle.lines.specs.Text.{digits, decimal}
+use Rattle.blocks.specs.Bytes.{flat, Under}
+use Rattle.blocks.proofs.Under.{under-none, under-cons}
+use Rattle.blocks.proofs.Passed.{Slices, passed}
+use Rattle.report.specs.declared.Advised.{Advised}
+use Rattle.report.specs.declared.Advised.the-variants as answer
+use Rattle.report.specs.Text.{items, line, binary, wordLines, causeLine, textOf, Report, sat, unsat, named}
+use Rattle.report.specs.Promise.{Lent, Answers, found-first, none-named, answered, Advises, size, lines}
+use Rattle.report.proofs.Once.{reports-once}
+use Rattle.boards.specs.Row.{Problem, lentWords, lentRules, bytesOf, Row, file, Follows, checkWith, Checks}
+use Rattle.boards.specs.Boards.{boardG, boardH, boards}
+use Rattle.boards.specs.Lines.{linesG, linesH, PutFor}
+use Rattle.boards.proofs.Boards.{boards-follow, boards-checked}
+
+-- ---- numbers that fit a slice
+
+abbrev allBelow : ℕ → List ℕ → Bool
+allBelow k [] = true
+allBelow k (x ∷ l) = ltb x k && allBelow k l
+
+all-under : (k : ℕ) (l : List ℕ) → 0 < k → T (allBelow k l) → Under k l
+all-under k [] p t = under-none k p
+all-under k (x ∷ l) p t =
+    let (a, b) = both (ltb x k) _ t in
+    under-cons k x l (ltb→lt x k a) (all-under k l p b)
+
+abbrev fitsSlices : Problem → Bool
+fitsSlices p = allBelow 18446744073709551616 (lentWords (p .widths) (p .lo) (p .hi)) && allBelow 256 (lentRules (p .rules))
+
+slices : (p : Problem) → T (fitsSlices p) → Slices (lentWords (p .widths) (p .lo) (p .hi)) (lentRules (p .rules))
+slices p t =
+    let (a, b) = both (allBelow 18446744073709551616 (lentWords (p .widths) (p .lo) (p .hi))) _ t in
+    record { words = all-under _ _ (omega arith) a; rules = all-under _ _ (omega arith) b }
+
+-- ---- what is put for a file whose problem is answered
+
+put-for : (p : Problem) (limit : ℕ) (x : Report) → T (fitsSlices p) → checkWith p limit ≡ Ok
+    → Answers limit (lentWords (p .widths) (p .lo) (p .hi)) (lentRules (p .rules)) x → PutFor p limit (textOf x)
+put-for p limit x t e a = record { answered = go }
+  where
+    go : {l k m n : List ℕ} {r : Advised} → Lent l k → Advises (bytesOf p limit) l k r m n
+        → (r ≡ answer.Lines (length (textOf x))) × (m ≡ textOf x ++ drop (length (textOf x)) l) × Cleared k n
+    go lent (size h) = absurd (h lent)
+    go lent (lines {x = y} g reports put c) =
+        let same : y ≡ x = reports-once reports (answered (record { storable = passed (slices p t) e; same = refl }) e a) in
+        (cc (put .ends), cc (put .text), c)
+
+-- ---- rows of the table by their numbers, from 0
+
+abbrev row : ℕ → Row
+row n = getD boards n (file boardG 0 [])
+
+all-at : (P : Row → Type 0) (rs : List Row) (n : ℕ) → All P rs → n < length rs → P (getD rs n (file boardG 0 []))
+all-at P [] n a l = absurd (omega arith)
+all-at P (r ∷ rs) zero a l = a .0
+all-at P (r ∷ rs) (suc n) a l = all-at P rs n (a .1) (omega arith)
+
+follows : (n : ℕ) → T (ltb n (length boards)) → Follows (row n)
+follows n t = all-at Follows boards n boards-follow (ltb→lt n (length boards) t)
+
+checks : (n : ℕ) → T (ltb n (length boards)) → Checks (row n)
+checks n t = all-at Checks boards n boards-checked (ltb→lt n (length boards) t)
+
+-- ---- the two boards
+
+pub case-G : PutFor boardG 100 linesG
+unfolding series textOf wordLines flat line items decimal digits binary bit
+case-G = put-for boardG 100 (sat 2 (2 ∷ 2 ∷ 2 ∷ []) (2 ∷ 1 ∷ 3 ∷ [])) tt (checks 11 tt) (found-first (follows 11 tt))
+
+pub case-H : PutFor boardH 1000000 linesH
+unfolding series textOf causeLine line items decimal digits
+case-H = put-for boardH 1000000 (unsat 0 (named 0 (0 ∷ 3 ∷ []))) tt (checks 13 tt) (none-named (follows 12 tt) (follows 13 tt))
