@@ -1,34 +1,16 @@
-// The adviser: one block file from standard input, the lines of its report to standard output. All that matters is in `report`.
+// The adviser: one block file from standard input, the lines of its report to standard output. `report::program::lines_of` promises every byte of them;
+// here they are only written. After success standard error is empty. After a read error nothing is written to standard output, and one line on standard error
+// says what failed; after a failed write one line there says so, and some of the bytes may have been written. The exit status is 0 in each case: a program of
+// this language has no other.
 use libc::STDIN_FILENO;
 use libc::STDOUT_FILENO;
-use report::Advised;
-ghost use mathlib.Core.Path.{_≡_};
-ghost use lib.ListN.{length};
+use report::program::lines_of;
 ghost use Rattle.advise.specs.Reading.{Reads};
 
 // How much of the input was read, or that reading failed.
 enum Input {
     Bytes(usize),
     Failed,
-}
-
-// One byte more than the longest file: a file that fills it is too long, and no more of it is read.
-fn file_room() -> [u8; 3585]
-    ensures { λ r. ⌜ 3585 ≡ length r ⌝ }
-{
-    [0; 3585]
-}
-
-fn lines_room() -> [u8; 2304]
-    ensures { λ r. ⌜ 2304 ≡ length r ⌝ }
-{
-    [0; 2304]
-}
-
-fn work_room() -> [u64; 5120]
-    ensures { λ r. ⌜ 5120 ≡ length r ⌝ }
-{
-    [0; 5120]
 }
 
 // Reads until the input ends or there is no room. Each read moves a byte or more, or is the last one, so the turns always do.
@@ -52,26 +34,16 @@ fn read_input(file: &mut [u8]) -> Input
     Input::Bytes(at)
 }
 
-// The lines of the advice on a file, written.
-fn advise(file: &[u8]) {
-    let mut out = lines_room();
-    let mut work = work_room();
-    let Advised::Lines(n) = report::advise(file, &mut out, &mut work) else {
-        return;
-    };
-    if out.len() < n {
-        return;
-    }
-    if !io::write_all(STDOUT_FILENO, &out[..n]) {
-        os::fail(b"standard output");
-    }
-}
-
+// One byte more than the longest file is asked for: a file that fills it is too long, and no more of it is read.
 fn main() {
-    let mut file = file_room();
+    let mut file = [0; 3585];
     let Input::Bytes(n) = read_input(&mut file) else {
         os::fail(b"standard input");
         return;
     };
-    advise(&file[..n]);
+    let mut out = [0; 2304];
+    let mut work = [0; 5120];
+    if !io::write_all(STDOUT_FILENO, lines_of(&file[..n], &mut out, &mut work)) {
+        os::fail(b"standard output");
+    }
 }

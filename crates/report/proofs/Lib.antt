@@ -6,3 +6,4 @@ pub mod Once
 pub mod Telling
 pub mod Naming
 pub mod Advising
+pub mod Advice

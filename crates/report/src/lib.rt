@@ -1,6 +1,7 @@
 // The call `advise`: a block file read, its problem solved, the cause looked for where there are no settings, and the report put into lent bytes as lines.
 mod line;
 mod printing;
+pub mod program;
 
 use blocks::Reading;
 use cause::Caused;
