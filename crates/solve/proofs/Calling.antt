@@ -12,7 +12,7 @@ use Rattle.checker.specs.Promise.{Fine}
 use Rattle.checker.proofs.Right.{ok-fine}
 use Rattle.checker.proofs.Rooms.{first-short, second-short, roomy, has-room}
 use Rattle.tighten.specs.Memory.{tableIn, Numbered, Cleared}
-use Rattle.tighten.proofs.Calling.{all-chosen, all-listed}
+use Rattle.tighten.proofs.Calling.{all-chosen}
 use Rattle.tighten.proofs.Memory.{low-at}
 use Rattle.searcher.specs.declared.Answer.{Answer}
 use Rattle.searcher.specs.declared.Answer.the-variants.{Found, Nothing, GaveUp}
@@ -57,33 +57,37 @@ module _ {limit : ℕ} {ws bs m l : List ℕ} (given : SolveGiven limit ws bs m 
   pub fine : Fine limit ws bs
   fine = ok-fine limit ws bs (roomed .2)
 
-  module _ {k : List ℕ} (y : Numbered (ruleCount bs) l k) where
-    pub asked : Asked ws bs k (ruleCount bs)
-    asked = record {
+  -- the first c rules are listed
+  module _ {c : ℕ} {k : List ℕ} (y : Numbered c l k) where
+    pub asked : c ≤ ruleCount bs → Asked ws bs k c
+    asked few = record {
       sized = fine .sized;
       problem = fine .problem;
-      listed = all-listed bs y (omega (arith, fine .sized .rules, work-room, y .size));
-      few = fine .sized .rules;
+      listed = record { room = omega (arith, fine .sized .rules, work-room, y .size); each = λ j h. rw (y .each j h) (omega arith) };
+      few = omega (arith, fine .sized .rules);
       room = omega (arith, work-room, y .size);
     }
 
-    module _ {r : Answer} {z : List ℕ} (s : Sought ws bs (ruleCount bs) limit k r z) where
-      comes : Comes limit ws bs (outcomeOf r (tableIn (wordCount ws) z .lo))
-      comes = rw (all-chosen bs y) at (s .search)
+    module _ {r : Answer} {z : List ℕ} (s : Sought ws bs c limit k r z) where
+      pub memory-room : wordCount ws ≤ length z
+      memory-room = omega (arith, fine .sized .words, work-room, y .size, s .size)
 
       cleared : {l′ : List ℕ} → Cleared z l′ → Cleared l l′
       cleared x = record { size = x .size ∙ s .size ∙ y .size; zeros = x .zeros }
 
-      pub memory-room : wordCount ws ≤ length z
-      memory-room = omega (arith, fine .sized .words, work-room, y .size, s .size)
+      -- and these are all of them: the search is that of the problem
+      module _ (all : c ≡ ruleCount bs) where
+        comes : Comes limit ws bs (outcomeOf r (tableIn (wordCount ws) z .lo))
+        comes = rw (all-chosen bs (rw all at y)) at (rw all at (s .search))
 
-      pub end-found : {g : ℕ} {m′ l′ : List ℕ} → r ≡ Found g → Stored (wordCount ws) z m m′ → Cleared z l′ → Solving limit ws bs m l (answer.Found g) m′ l′
-      end-found e x c =
-          found-first given (rw e at comes)
-          (record { size = x .size; each = λ i h. x .each i h ∙ sym (low-at (wordCount ws) z i h); rest = x .rest }) (cleared c)
+        pub end-found : {g : ℕ} {m′ l′ : List ℕ} → r ≡ Found g → Stored (wordCount ws) z m m′ → Cleared z l′
+            → Solving limit ws bs m l (answer.Found g) m′ l′
+        end-found e x d =
+            found-first given (rw e at comes)
+            (record { size = x .size; each = λ i h. x .each i h ∙ sym (low-at (wordCount ws) z i h); rest = x .rest }) (cleared d)
 
-      pub end-none : {g : ℕ} {l′ : List ℕ} → r ≡ Nothing g → Cleared z l′ → Solving limit ws bs m l (answer.Nothing g) m l′
-      end-none e c = found-none given (rw e at comes) (cleared c)
+        pub end-none : {g : ℕ} {l′ : List ℕ} → r ≡ Nothing g → Cleared z l′ → Solving limit ws bs m l (answer.Nothing g) m l′
+        end-none e d = found-none given (rw e at comes) (cleared d)
 
-      pub end-gave-up : {l′ : List ℕ} → r ≡ GaveUp → Cleared z l′ → Solving limit ws bs m l (answer.GaveUp limit) m l′
-      end-gave-up e c = gave-up-at given (rw e at comes) (cleared c)
+        pub end-gave-up : {l′ : List ℕ} → r ≡ GaveUp → Cleared z l′ → Solving limit ws bs m l (answer.GaveUp limit) m l′
+        end-gave-up e d = gave-up-at given (rw e at comes) (cleared d)

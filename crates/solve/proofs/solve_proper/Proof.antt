@@ -8,12 +8,12 @@ use Rattle.solve.proofs.solve_proper.Tie as tie
 list-all-requires : tie.Need-list-all-requires
 list-all-requires c κs =
     let given = c .before .before .before .before .before .pre in
-    (fine given .sized .rules, omega (arith, fine given .sized .rules, work-room given))
+    (omega (arith, fine given .sized .rules), omega (arith, fine given .sized .rules, work-room given))
 
 search-problem-requires : tie.Need-search-problem-requires
 search-problem-requires c κs =
     let l = c .before .before .before in
-    asked (l .before .before .before .before .before .before .pre) (l .list-all .ensures)
+    asked (l .before .before .before .before .before .before .pre) (l .list-all .ensures) (omega arith)
 
 enum-known-count : tie.Need-enum-known-count
 enum-known-count c = search needs
@@ -23,7 +23,7 @@ store-requires c κs =
     let t = c .before .before .before .before .before .before .before in
     let l = t .before .before .before .before in
     let given = l .before .before .before .before .before .before .pre in
-    (model-room given, memory-room given (l .list-all .ensures) (t .search-problem .ensures))
+    (omega (arith, model-room given), omega (arith, memory-room given (l .list-all .ensures) (t .search-problem .ensures)))
 
 clear-requires : tie.Need-clear-requires
 clear-requires c κs = search needs
@@ -54,7 +54,7 @@ returns c =
     let t = k .before .before .before .before in
     let l = t .before .before .before .before in
     let given = l .before .before .before .before .before .before .pre in
-    end-found given (l .list-all .ensures) (t .search-problem .ensures) (k .count .given .1) (m .store .ensures) (e .clear .ensures)
+    end-found given (l .list-all .ensures) (t .search-problem .ensures) (omega arith) (k .count .given .1) (m .store .ensures) (e .clear .ensures)
 
 same-length-3 : tie.Need-same-length-3
 same-length-3 c = search needs
@@ -66,7 +66,7 @@ returns-2 c =
     let t = k .before .before .before .before in
     let l = t .before .before .before .before in
     let given = l .before .before .before .before .before .before .pre in
-    end-none given (l .list-all .ensures) (t .search-problem .ensures) (k .count2 .given .1) (e .clear2 .ensures)
+    end-none given (l .list-all .ensures) (t .search-problem .ensures) (omega arith) (k .count2 .given .1) (e .clear2 .ensures)
 
 same-length-4 : tie.Need-same-length-4
 same-length-4 c = search needs
@@ -78,7 +78,7 @@ returns-3 c =
     let t = k .before .before .before .before in
     let l = t .before .before .before .before in
     let given = l .before .before .before .before .before .before .pre in
-    end-gave-up given (l .list-all .ensures) (t .search-problem .ensures) (k .enum-told .given .1) (e .clear3 .ensures)
+    end-gave-up given (l .list-all .ensures) (t .search-problem .ensures) (omega arith) (k .enum-told .given .1) (e .clear3 .ensures)
 
 pub solve-proper-spec : {M : Type 1} → statement M
 solve-proper-spec =
