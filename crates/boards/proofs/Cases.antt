@@ -41,8 +41,8 @@ all-under k (x ∷ l) p t =
 abbrev fitsSlices : Problem → Bool
 fitsSlices p = allBelow 18446744073709551616 (lentWords (p .widths) (p .lo) (p .hi)) && allBelow 256 (lentRules (p .rules))
 
-slices : (p : Problem) → T (fitsSlices p) → Slices (lentWords (p .widths) (p .lo) (p .hi)) (lentRules (p .rules))
-slices p t =
+board-slices : (p : Problem) → T (fitsSlices p) → Slices (lentWords (p .widths) (p .lo) (p .hi)) (lentRules (p .rules))
+board-slices p t =
     let (a, b) = both (allBelow 18446744073709551616 (lentWords (p .widths) (p .lo) (p .hi))) _ t in
     record { words = all-under _ _ (omega arith) a; rules = all-under _ _ (omega arith) b }
 
@@ -52,35 +52,35 @@ put-for : (p : Problem) (limit : ℕ) (x : Report) → T (fitsSlices p) → chec
     → Answers limit (lentWords (p .widths) (p .lo) (p .hi)) (lentRules (p .rules)) x → PutFor p limit (textOf x)
 put-for p limit x t e a = record { answered = go }
   where
-    go : {l k m n : List ℕ} {r : Advised} → Lent l k → Advises (bytesOf p limit) l k r m n
-        → (r ≡ answer.Lines (length (textOf x))) × (m ≡ textOf x ++ drop (length (textOf x)) l) × Cleared k n
+    go : {out work out′ work′ : List ℕ} {r : Advised} → Lent out work → Advises (bytesOf p limit) out work r out′ work′
+        → (r ≡ answer.Lines (length (textOf x))) × (out′ ≡ textOf x ++ drop (length (textOf x)) out) × Cleared work work′
     go lent (size h) = absurd (h lent)
     go lent (lines {x = y} g reports put c) =
-        let same : y ≡ x = reports-once reports (answered (record { storable = passed (slices p t) e; same = refl }) e a) in
+        let same : y ≡ x = reports-once reports (answered (record { storable = passed (board-slices p t) e; same = refl }) e a) in
         (cc (put .ends), cc (put .text), c)
 
 -- ---- rows of the table by their numbers, from 0
 
-abbrev row : ℕ → Row
-row n = getD boards n (file boardG 0 [])
+abbrev boardRow : ℕ → Row
+boardRow n = getD boards n (file boardG 0 [])
 
-all-at : (P : Row → Type 0) (rs : List Row) (n : ℕ) → All P rs → n < length rs → P (getD rs n (file boardG 0 []))
-all-at P [] n a l = absurd (omega arith)
-all-at P (r ∷ rs) zero a l = a .0
-all-at P (r ∷ rs) (suc n) a l = all-at P rs n (a .1) (omega arith)
+all-row : (P : Row → Type 0) (rs : List Row) (n : ℕ) → All P rs → n < length rs → P (getD rs n (file boardG 0 []))
+all-row P [] n a l = absurd (omega arith)
+all-row P (r ∷ rs) zero a l = a .0
+all-row P (r ∷ rs) (suc n) a l = all-row P rs n (a .1) (omega arith)
 
-follows : (n : ℕ) → T (ltb n (length boards)) → Follows (row n)
-follows n t = all-at Follows boards n boards-follow (ltb→lt n (length boards) t)
+board-follows : (n : ℕ) → T (ltb n (length boards)) → Follows (boardRow n)
+board-follows n t = all-row Follows boards n boards-follow (ltb→lt n (length boards) t)
 
-checks : (n : ℕ) → T (ltb n (length boards)) → Checks (row n)
-checks n t = all-at Checks boards n boards-checked (ltb→lt n (length boards) t)
+board-checks : (n : ℕ) → T (ltb n (length boards)) → Checks (boardRow n)
+board-checks n t = all-row Checks boards n boards-checked (ltb→lt n (length boards) t)
 
 -- ---- the two boards
 
 pub case-G : PutFor boardG 100 linesG
 unfolding series textOf wordLines flat line items decimal digits binary bit
-case-G = put-for boardG 100 (sat 2 (2 ∷ 2 ∷ 2 ∷ []) (2 ∷ 1 ∷ 3 ∷ [])) tt (checks 11 tt) (found-first (follows 11 tt))
+case-G = put-for boardG 100 (sat 2 (2 ∷ 2 ∷ 2 ∷ []) (2 ∷ 1 ∷ 3 ∷ [])) tt (board-checks 11 tt) (found-first (board-follows 11 tt))
 
 pub case-H : PutFor boardH 1000000 linesH
 unfolding series textOf causeLine line items decimal digits
-case-H = put-for boardH 1000000 (unsat 0 (named 0 (0 ∷ 3 ∷ []))) tt (checks 13 tt) (none-named (follows 12 tt) (follows 13 tt))
+case-H = put-for boardH 1000000 (unsat 0 (named 0 (0 ∷ 3 ∷ []))) tt (board-checks 13 tt) (none-named (board-follows 12 tt) (board-follows 13 tt))

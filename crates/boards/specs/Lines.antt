@@ -21,8 +21,8 @@ linesG =
 abbrev pub linesH : List ℕ
 linesH = 117 ∷ 110 ∷ 115 ∷ 97 ∷ 116 ∷ 32 ∷ 48 ∷ 10 ∷ 99 ∷ 97 ∷ 117 ∷ 115 ∷ 101 ∷ 32 ∷ 48 ∷ 32 ∷ 48 ∷ 32 ∷ 51 ∷ 10 ∷ []
 
--- Given the problem's file, `advise` puts these lines. Whatever bytes l and work memory k of enough length are lent: every answer r, bytes m and memory n that
--- its promise allows are these. The answer is their length, they stand in front, the rest stays as it was, and work memory is all 0
+-- Given the problem's file, `advise` puts these lines. Whatever bytes and work memory of enough length are lent, every result that its promise allows is this
+-- one: the answer is their length, they stand in front, the rest of the bytes stays as it was, and work memory is all 0
 pub record PutFor (p : Problem) (limit : ℕ) (text : List ℕ) : Type 0 where
-  pub answered : {l k m n : List ℕ} {r : Advised} → Lent l k → Advises (bytesOf p limit) l k r m n
-      → (r ≡ answer.Lines (length text)) × (m ≡ text ++ drop (length text) l) × Cleared k n
+  pub answered : {out work out′ work′ : List ℕ} {r : Advised} → Lent out work → Advises (bytesOf p limit) out work r out′ work′
+      → (r ≡ answer.Lines (length text)) × (out′ ≡ text ++ drop (length text) out) × Cleared work work′

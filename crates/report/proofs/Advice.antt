@@ -19,17 +19,18 @@ pub advice-once : {f a b : List ℕ} → Advice f a → Advice f b → a ≡ b
 advice-once x y = x .text ∙ ap textOf (reports-once (x .reports) (y .reports)) ∙ sym (y .text)
 
 -- nothing is refused where enough is lent
-pub always-lines : {f l k m n : List ℕ} {r : Advised} {a b : ℕ} → Lent l k → Advises f l k r m n → r ≡ answer.Refused a b → ⊥
+pub always-lines : {f out work out′ work′ : List ℕ} {r : Advised} {a b : ℕ} → Lent out work → Advises f out work r out′ work′ → r ≡ answer.Refused a b → ⊥
 always-lines lent (size h) e = h lent
 always-lines lent (lines g x p c) e = let z : _≡_ {A = ℕ} 0 1 = cc in omega arith
 
-pub lines-advice : {f l k m n : List ℕ} {r : Advised} {e : ℕ} → Lent l k → Advises f l k r m n → r ≡ answer.Lines e → Advice f (take e m) × Cleared k n
+pub lines-advice : {f out work out′ work′ : List ℕ} {r : Advised} {e : ℕ} → Lent out work → Advises f out work r out′ work′ → r ≡ answer.Lines e
+    → Advice f (take e out′) × Cleared work work′
 lines-advice lent (size h) q = absurd (h lent)
-lines-advice {l = l} {e = e} lent (lines {x = x} {m = m} {e = d} g reports p c) q =
+lines-advice {out = out} {e = e} lent (lines {x = x} {m = out′} {e = d} g reports p c) q =
     let same : d ≡ e = cc in
-    let text : take e m ≡ textOf x = ap (take e) (p .text) ∙ take-at (textOf x) (drop (length (textOf x)) l) e (sym (p .ends) ∙ same) in
+    let text : take e out′ ≡ textOf x = ap (take e) (p .text) ∙ take-at (textOf x) (drop (length (textOf x)) out) e (sym (p .ends) ∙ same) in
     (record { report = x; reports = reports; text = text }, c)
 
 -- and the lines are within the lent bytes
-pub answer-within : {f l k m n : List ℕ} {r : Advised} {e : ℕ} → Advises f l k r m n → r ≡ answer.Lines e → e ≤ length m
+pub answer-within : {f out work out′ work′ : List ℕ} {r : Advised} {e : ℕ} → Advises f out work r out′ work′ → r ≡ answer.Lines e → e ≤ length out′
 answer-within x q = lines-within (rw q at x)
