@@ -7,14 +7,13 @@ use native.Mathlib.Omega.{arith}
 use lib.Dec.{T, ltb, ltb→lt}
 use lib.ListN.{length, drop, getD}
 use Rattle.words.specs.Bits.{bit}
-use Rattle.rules.proofs.Lists.{All}
-use Rattle.rules.proofs.FitTest.{both}
+use Rattle.lists.specs.Every.{All}
+use Rattle.lists.proofs.Bools.{both}
 use Rattle.checker.specs.declared.Checked.the-variants.{Ok}
-use Rattle.checker.specs.Lent.{series}
+use Rattle.lists.specs.Lists.{series, flat, Under}
 use Rattle.tighten.specs.Memory.{Cleared}
-use Rattle.lines.specs.Text.{digits, decimal}
-use Rattle.blocks.specs.Bytes.{flat, Under}
-use Rattle.blocks.proofs.Under.{under-none, under-cons}
+use Rattle.decimal.specs.Text.{digits, decimal}
+use Rattle.lists.proofs.Unders.{under-none, under-cons}
 use Rattle.blocks.proofs.Passed.{Slices, passed}
 use Rattle.report.specs.declared.Advised.{Advised}
 use Rattle.report.specs.declared.Advised.the-variants as answer

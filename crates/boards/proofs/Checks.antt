@@ -6,12 +6,12 @@ use Prim.Native.Nat.{ℕ}
 use lib.Dec.{T, eqb, ltb, eqb→eq, ltb→lt}
 use lib.ListN.{length}
 use Rattle.words.specs.Bits.{bit}
-use Rattle.words.specs.Table.{at}
+use Rattle.lists.specs.Lists.{at}
 use Rattle.rules.specs.Kinds.{Place, kindOf}
 use Rattle.rules.specs.Rows.{uses}
 use Rattle.rules.specs.Tight.{rule, word}
-use Rattle.rules.proofs.Lists.{All}
-use Rattle.rules.proofs.FitTest.{both}
+use Rattle.lists.specs.Every.{All}
+use Rattle.lists.proofs.Bools.{both}
 use Rattle.checker.specs.declared.Checked.{Checked}
 use Rattle.checker.specs.declared.Checked.the-variants.{Ok, Refused}
 use Rattle.boards.specs.Row.{Problem, Row, solve, ceiling, explain, cause, file, checkWith, checkOf, AsksOpen, Checks}

@@ -4,7 +4,8 @@ use mathlib.Core.List.{List, [], _∷_}
 use Prim.Native.Nat.{ℕ, _<_}
 use lib.Dec.{T}
 use lib.ListN.{length, drop}
-use Rattle.words.specs.Table.{Table, at, Open}
+use Rattle.words.specs.Table.{Table, Open}
+use Rattle.lists.specs.Lists.{at}
 use Rattle.rules.specs.Kinds.{Place, kindOf}
 use Rattle.rules.specs.Rows.{uses}
 use Rattle.rules.specs.Tight.{Rule, rule, word, shape, span, Tight}

@@ -2,9 +2,9 @@
 use mathlib.Core.List.{List}
 use Prim.Native.Nat.{ℕ, _<_}
 use native.Mathlib.Omega.{arith}
-use Rattle.words.specs.Table.{at}
-use Rattle.checker.specs.Lent.{ruleCount, ruleAt}
-use Rattle.checker.proofs.Series.{length-series}
+use Rattle.lists.specs.Lists.{at}
+use Rattle.problem.specs.Lent.{ruleCount, ruleAt}
+use Rattle.lists.proofs.Series.{length-series}
 use Rattle.causes.proofs.Ascending.{cause-ascending, cause-below}
 use Rattle.cause.specs.declared.Caused.the-variants as answer
 use Rattle.cause.specs.Promise.{Causing, caused-by}
