@@ -5,6 +5,6 @@ use lib.ListN.{length}
 use Rattle.advise.specs.declared.Input.{Input}
 use Rattle.advise.specs.declared.Input.the-variants.{Bytes, Failed}
 
-abbrev pub Reads : Input → List ℕ → Type 0
-Reads (Bytes n) l = n ≤ length l
-Reads Failed l = Unit {0}
+abbrev pub InputRead : Input → List ℕ → Type 0
+InputRead (Bytes n) l = n ≤ length l
+InputRead Failed l = Unit {0}

@@ -5,7 +5,7 @@
 use libc::STDIN_FILENO;
 use libc::STDOUT_FILENO;
 use report::program::lines_of;
-ghost use Rattle.advise.specs.Reading.{Reads};
+ghost use Rattle.advise.specs.Reading.{InputRead};
 
 // How much of the input was read, or that reading failed.
 enum Input {
@@ -15,7 +15,7 @@ enum Input {
 
 // Reads until the input ends or there is no room. Each read moves a byte or more, or is the last one, so the turns always do.
 fn read_input(file: &mut [u8]) -> Input
-    ensures { λ r. ⌜ Reads r (now (file .exit)) ⌝ }
+    ensures { λ r. ⌜ InputRead r (now (file .exit)) ⌝ }
 {
     let mut at = 0;
     let mut turns = file.len();

@@ -8,7 +8,7 @@ use native.Mathlib.Omega.{arith}
 use lib.ListN.{length}
 use Rattle.lists.specs.Lists.{at, part, zeros, flat, Under}
 use Rattle.problem.specs.Lent.{widthAt, ruleAt}
-use Rattle.blocks.specs.Bytes.{le, number}
+use Rattle.blocks.specs.Bytes.{le, fromLe}
 use Rattle.blocks.specs.Records.{ruleBytes, wordRecord, ruleRecord}
 use Rattle.blocks.specs.Edition.{edition1}
 use Rattle.blocks.specs.Block.{Clear}
@@ -40,13 +40,13 @@ module _ (f : List ℕ) (n : ℕ) (long : 512 * wordBlocks edition1 n ≤ length
 
   -- from the file to the numbers: a width, which is one byte and seven zeros, is below 256
   pub small-width : Under 256 f → (j : ℕ) → j < n → Clear f (slot (3 * j) + 1) (slot (3 * j) + 8) → widthAt (wordsIn f n) j < 256
-  unfolding wordsIn number zeros
+  unfolding wordsIn fromLe zeros
   small-width u j h z =
       let a = slot (3 * j) in
       let inside = slot-inside (3 * j) (omega arith) in
       let rest = clear-part f (a + 1) 7 (a + 8) (omega arith) (omega arith) z in
       let e : part f a 8 ≡ at f a ∷ zeros 7 = part-cons f a 7 (omega arith) ∙ ap (λ t. at f a ∷ t) (rw (← add-one a) rest) in
-      rw (series-at 0 (3 * n) (3 * j) (λ x. number (part f (slot x) 8)) (omega arith), e) (omega (arith, u .each a))
+      rw (series-at 0 (3 * n) (3 * j) (λ x. fromLe (part f (slot x) 8)) (omega arith), e) (omega (arith, u .each a))
 
   pub word-decoded : Under 256 f → (j : ℕ) → j < n → widthAt (wordsIn f n) j < 256 → rawAt (edition1 .words) f 0 j ≡ wordRecord (wordsIn f n) j
   unfolding wordsIn
@@ -55,16 +55,16 @@ module _ (f : List ℕ) (n : ℕ) (long : 512 * wordBlocks edition1 n ≤ length
       item : (x : ℕ) → x < 3 → part f (slot (3 * j + x)) 8 ≡ le 8 (at (wordsIn f n) (3 * j + x))
       item x g =
           part-le f (slot (3 * j + x)) 8 u (slot-inside (3 * j + x) (omega arith))
-          ∙ ap (le 8) (sym (series-at 0 (3 * n) (3 * j + x) (λ y. number (part f (slot y) 8)) (omega arith)))
+          ∙ ap (le 8) (sym (series-at 0 (3 * n) (3 * j + x) (λ y. fromLe (part f (slot y) 8)) (omega arith)))
 
   -- from the numbers to the file
   pub word-encoded : (ws : List ℕ) → Under (2 ^ 64) ws → (j : ℕ) → j < n → widthAt ws j < 256 → rawAt (edition1 .words) f 0 j ≡ wordRecord ws j
-      → (x : ℕ) → x < 3 → number (part f (slot (3 * j + x)) 8) ≡ at ws (3 * j + x)
+      → (x : ℕ) → x < 3 → fromLe (part f (slot (3 * j + x)) 8) ≡ at ws (3 * j + x)
   word-encoded ws u j h w e x g =
       let same = flat-pieces 3 8 (λ x. part f (slot (3 * j + x)) 8) (λ x. le 8 (at ws (3 * j + x)))
       (λ y l. length-part f (slot (3 * j + y)) 8 (slot-inside (3 * j + y) (omega arith))) (λ y l. length-le 8 (at ws (3 * j + y)))
       (sym (word-raw f j) ∙ e ∙ word-items ws j w) x g in
-      ap number same ∙ number-le 8 (at ws (3 * j + x)) (u .each (3 * j + x))
+      ap fromLe same ∙ number-le 8 (at ws (3 * j + x)) (u .each (3 * j + x))
 
 -- ---- rules
 

@@ -5,7 +5,7 @@ use Prim.Native.Nat.{ℕ, zero, suc, _+_, _*_, _/_, _%_, _^_, _<_, _≤_}
 use native.Mathlib.Nat.{pow-suc, one-le-pow}
 use native.Mathlib.Omega.{arith}
 use lib.ListN.{length}
-use Rattle.blocks.specs.Bytes.{le, number}
+use Rattle.blocks.specs.Bytes.{le, fromLe}
 use Rattle.lists.specs.Lists.{part, Under}
 use Rattle.lists.proofs.Parts.{length-part}
 use Rattle.lists.proofs.Unders.{under-part}
@@ -15,33 +15,33 @@ unfolding le
 length-le zero x = refl
 length-le (suc k) x = ap suc (length-le k (x / 256))
 
-pub number-le : (k x : ℕ) → x < 256 ^ k → number (le k x) ≡ x
-unfolding le number
+pub number-le : (k x : ℕ) → x < 256 ^ k → fromLe (le k x) ≡ x
+unfolding le fromLe
 number-le zero x h = omega arith
 number-le (suc k) x h = let e = number-le k (x / 256) (omega (arith, pow-suc 256 k)) in omega arith
 
 tail-under : (a : ℕ) (r : List ℕ) → Under 256 (a ∷ r) → Under 256 r
 tail-under a r u = record { each = λ i. u .each (suc i) }
 
-pub le-number : (l : List ℕ) → Under 256 l → le (length l) (number l) ≡ l
-unfolding le number
+pub le-number : (l : List ℕ) → Under 256 l → le (length l) (fromLe l) ≡ l
+unfolding le fromLe
 le-number [] u = refl
 le-number (a ∷ r) u =
-    let low : (a + 256 * number r) % 256 ≡ a = omega (arith, u .each 0) in
-    let high : (a + 256 * number r) / 256 ≡ number r = omega (arith, u .each 0) in
+    let low : (a + 256 * fromLe r) % 256 ≡ a = omega (arith, u .each 0) in
+    let high : (a + 256 * fromLe r) / 256 ≡ fromLe r = omega (arith, u .each 0) in
     rw (low, high, le-number r (tail-under a r u))
 
-pub number-under : (k : ℕ) (l : List ℕ) → length l ≤ k → Under 256 l → number l < 256 ^ k
-unfolding number
+pub number-under : (k : ℕ) (l : List ℕ) → length l ≤ k → Under 256 l → fromLe l < 256 ^ k
+unfolding fromLe
 number-under zero [] h u = omega arith
 number-under zero (x ∷ xs) h u = absurd (omega arith)
 number-under (suc k) [] h u = omega (arith, one-le-pow k 256 (omega arith))
 number-under (suc k) (x ∷ xs) h u = omega (arith, u .each 0, pow-suc 256 k, number-under k xs (omega arith) (tail-under x xs u))
 
 -- bytes of a list are those of the number that they make
-pub part-le : (l : List ℕ) (a k : ℕ) → Under 256 l → a + k ≤ length l → part l a k ≡ le k (number (part l a k))
+pub part-le : (l : List ℕ) (a k : ℕ) → Under 256 l → a + k ≤ length l → part l a k ≡ le k (fromLe (part l a k))
 part-le l a k u h =
-    sym (subst (λ m. le m (number (part l a k)) ≡ part l a k) (length-part l a k h) (le-number (part l a k) (under-part 256 l a k (omega arith) u)))
+    sym (subst (λ m. le m (fromLe (part l a k)) ≡ part l a k) (length-part l a k h) (le-number (part l a k) (under-part 256 l a k (omega arith) u)))
 
 -- the two bytes of a number of two bytes
 pub low-byte : (x y i : ℕ) → x < 256 → x + 256 * y ≡ i → x ≡ i % 256

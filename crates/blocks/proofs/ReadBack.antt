@@ -6,7 +6,7 @@ use native.Mathlib.Omega.{arith}
 use lib.ListN.{length}
 use Rattle.lists.specs.Lists.{at, part, zeros, Under}
 use Rattle.problem.specs.Lent.{wordCount, ruleCount}
-use Rattle.blocks.specs.Bytes.{le, number}
+use Rattle.blocks.specs.Bytes.{le, fromLe}
 use Rattle.blocks.specs.Records.{wordBytes, ruleBytes, wordRecord, ruleRecord}
 use Rattle.blocks.specs.Edition.{edition1}
 use Rattle.blocks.specs.File.{ProperFile}
@@ -73,13 +73,13 @@ module _ {limit : ℕ} {ws bs : List ℕ} (ok : Storable limit ws bs) where
       there : (j : ℕ) → j < n → rawAt (edition1 .words) f 0 j ≡ wordRecord ws j
       there = word-there edition1 fair1 (wordRecord ws) (ruleRecord bs) n m limit (made-words .sized) (made-rules .sized)
 
-      item : (x : ℕ) → x < 3 * n → number (part f (slot x) 8) ≡ at ws x
+      item : (x : ℕ) → x < 3 * n → fromLe (part f (slot x) 8) ≡ at ws x
       item x h =
           let e : 3 * (x / 3) + x % 3 ≡ x = omega arith in
           let j = x / 3 in
           let h′ : j < n = omega arith in
           let t = word-encoded f n (omega (arith, length-encode limit ws bs)) ws (ok .words) j h′ (ok .width j) (there j h′) (x % 3) (omega arith) in
-          subst (λ y. number (part f (slot y) 8) ≡ at ws y) e t
+          subst (λ y. fromLe (part f (slot y) 8) ≡ at ws y) e t
 
   pub rules-back : rulesIn (encode edition1 limit ws bs) n m ≡ bs
   unfolding rulesIn encode

@@ -6,7 +6,7 @@ use native.Mathlib.Omega.{arith}
 use lib.ListN.{length, drop, length-drop}
 use lib.Seq.{take-all, getD-drop, getD-append-add}
 use Rattle.lists.specs.Lists.{at, part, zeros, flat, Under}
-use Rattle.blocks.specs.Bytes.{le, number}
+use Rattle.blocks.specs.Bytes.{le, fromLe}
 use Rattle.blocks.specs.Edition.{Form, Edition}
 use Rattle.blocks.specs.Block.{Clear, RecordBlock, EndBlock}
 use Rattle.blocks.specs.Written.{block}
@@ -108,7 +108,7 @@ module _ (E : Edition) where
   pub block-end : (b : List ℕ) (i l : ℕ) → i < 65536 → l < 2 ^ 32 → b ≡ block E 3 i 0 (le 4 l) → EndBlock E i l b
   block-end b i l small h e = record {
     header = rw e (block-header E 3 i 0 (le 4 l) small (omega arith));
-    limit-is = ap number (there b (le 4 l) (zeros (504 - length (le 4 l))) (length-le 4 l) (ap (drop 8) e ∙ block-rest E 3 i 0 (le 4 l))) ∙ number-le 4 l h;
+    limit-is = ap fromLe (there b (le 4 l) (zeros (504 - length (le 4 l))) (length-le 4 l) (ap (drop 8) e ∙ block-rest E 3 i 0 (le 4 l))) ∙ number-le 4 l h;
     rest = subst (λ n. Clear b (8 + n) 512) (length-le 4 l) (rest-clear E b 3 i 0 (le 4 l) e);
   }
     where

@@ -3,7 +3,7 @@ use mathlib.Core.Path.{_≡_}
 use mathlib.Core.List.{List}
 use Prim.Native.Nat.{ℕ, _+_, _*_, _%_, _<_, _≤_}
 use Rattle.lists.specs.Lists.{at, part, total}
-use Rattle.blocks.specs.Bytes.{number}
+use Rattle.blocks.specs.Bytes.{fromLe}
 use Rattle.blocks.specs.Edition.{Form, Edition}
 
 -- the sixteen-bit number j of a block
@@ -55,5 +55,5 @@ module _ (E : Edition) where
   -- kind 3: count 0, the limit in the first four record bytes, and zeros
   pub record EndBlock (i limit : ℕ) (b : List ℕ) : Type 0 where
     pub header : Header 3 i 0 b
-    pub limit-is : number (part b 8 4) ≡ limit
+    pub limit-is : fromLe (part b 8 4) ≡ limit
     pub rest : Clear b 12 512

@@ -8,6 +8,6 @@ le zero x = []
 le (suc k) x = x % 256 ∷ le k (x / 256)
 
 -- the number that bytes make, the lowest first
-unfoldable pub number : List ℕ → ℕ
-number [] = 0
-number (a ∷ r) = a + 256 * number r
+unfoldable pub fromLe : List ℕ → ℕ
+fromLe [] = 0
+fromLe (a ∷ r) = a + 256 * fromLe r

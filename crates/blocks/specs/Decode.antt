@@ -3,7 +3,7 @@ use mathlib.Core.List.{List}
 use Prim.Native.Nat.{ℕ, _+_, _*_, _/_, _%_}
 use Rattle.lists.specs.Lists.{at, series, part}
 use Rattle.problem.specs.Lent.{stride, fields}
-use Rattle.blocks.specs.Bytes.{number}
+use Rattle.blocks.specs.Bytes.{fromLe}
 use Rattle.blocks.specs.Edition.{edition1}
 use Rattle.blocks.specs.Written.{wordBlocks}
 
@@ -13,7 +13,7 @@ slot x = 512 * (x / 63) + 8 + 8 * (x % 63)
 
 -- the numbers of n words
 unfoldable pub wordsIn : List ℕ → ℕ → List ℕ
-wordsIn f n = series (stride * n) (λ x. number (part f (slot x) 8))
+wordsIn f n = series (stride * n) (λ x. fromLe (part f (slot x) 8))
 
 -- the bytes of m rules, which stand after the words blocks of n words
 unfoldable pub rulesIn : List ℕ → ℕ → ℕ → List ℕ

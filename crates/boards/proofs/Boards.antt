@@ -7,10 +7,10 @@ use Rattle.lists.specs.Every.{All}
 use Rattle.rules.proofs.Steps.{tightened}
 use Rattle.checker.specs.Tests.{sized, areFields, isFitting}
 use Rattle.checker.specs.Refusal.{firstOf, wordRefusal, ruleRefusal, refusal, refusalWith}
-use Rattle.search.proofs.Solved.{solved}
-use Rattle.search.proofs.TheCeiling.{some-ceiling}
-use Rattle.reasons.proofs.Explained.{explained}
-use Rattle.causes.proofs.Named.{named}
+use Rattle.search_theory.proofs.Solved.{solved}
+use Rattle.search_theory.proofs.TheCeiling.{some-ceiling}
+use Rattle.reason_theory.proofs.Explained.{explained}
+use Rattle.cause_theory.proofs.Named.{named}
 use Rattle.blocks.specs.Bytes.{le}
 use Rattle.lists.specs.Lists.{zeros, flat, total}
 use Rattle.blocks.specs.Block.{sum}

@@ -18,7 +18,7 @@ use Rattle.blocks.proofs.Passed.{Slices, passed}
 use Rattle.report.specs.declared.Advised.{Advised}
 use Rattle.report.specs.declared.Advised.the-variants as answer
 use Rattle.report.specs.Text.{items, line, binary, wordLines, causeLine, textOf, Report, sat, unsat, named}
-use Rattle.report.specs.Promise.{Lent, Answers, found-first, none-named, answered, Advises, size, lines}
+use Rattle.report.specs.Promise.{Lent, ReportOf, found-first, none-named, answered, Advises, size, lines}
 use Rattle.report.proofs.Once.{reports-once}
 use Rattle.boards.specs.Row.{Problem, lentWords, lentRules, bytesOf, Row, file, Follows, checkWith, Checks}
 use Rattle.boards.specs.Boards.{boardG, boardH, boards}
@@ -48,7 +48,7 @@ board-slices p t =
 -- ---- what is put for a file whose problem is answered
 
 put-for : (p : Problem) (limit : ℕ) (x : Report) → T (fitsSlices p) → checkWith p limit ≡ Ok
-    → Answers limit (lentWords (p .widths) (p .lo) (p .hi)) (lentRules (p .rules)) x → PutFor p limit (textOf x)
+    → ReportOf limit (lentWords (p .widths) (p .lo) (p .hi)) (lentRules (p .rules)) x → PutFor p limit (textOf x)
 put-for p limit x t e a = record { answered = go }
   where
     go : {out work out′ work′ : List ℕ} {r : Advised} → Lent out work → Advises (bytesOf p limit) out work r out′ work′

@@ -14,11 +14,11 @@ use Rattle.lists.specs.Every.{All}
 use Rattle.lists.proofs.Bools.{both}
 use Rattle.rules.proofs.Steps.{tightened}
 use Rattle.rules.proofs.Widest.{tightened-right}
-use Rattle.search.specs.Ceiling.{Ceiling}
-use Rattle.search.proofs.Solved.{solved, solved-right}
-use Rattle.search.proofs.TheCeiling.{some-ceiling}
-use Rattle.reasons.proofs.Explained.{explained, explained-right}
-use Rattle.causes.proofs.Named.{named, named-right}
+use Rattle.search_theory.specs.Ceiling.{Ceiling}
+use Rattle.search_theory.proofs.Solved.{solved, solved-right}
+use Rattle.search_theory.proofs.TheCeiling.{some-ceiling}
+use Rattle.reason_theory.proofs.Explained.{explained, explained-right}
+use Rattle.cause_theory.proofs.Named.{named, named-right}
 use Rattle.boards.specs.Row.{Problem, table, bytesOf, Row, solve, ceiling, explain, cause, file, Follows}
 use Rattle.boards.proofs.Sound.{properb, proper-sound, legalb, legal-sound}
 

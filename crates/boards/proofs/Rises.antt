@@ -4,9 +4,9 @@ use mathlib.Core.List.{List, [], _∷_}
 use lib.Dec.{T}
 use Rattle.lists.specs.Every.{All}
 use Rattle.rules.proofs.OwnPlaces.{ne-self}
-use Rattle.search.specs.Search.{found, none}
-use Rattle.search.proofs.Solved.{solved}
-use Rattle.search.proofs.TheCeiling.{some-ceiling}
+use Rattle.search_theory.specs.Search.{found, none}
+use Rattle.search_theory.proofs.Solved.{solved}
+use Rattle.search_theory.proofs.TheCeiling.{some-ceiling}
 use Rattle.rules.proofs.Steps.{tightened}
 use Rattle.rules.specs.Tight.{Rule}
 use Rattle.boards.specs.Row.{Problem, Row, solve, ceiling, Follows}

@@ -3,9 +3,9 @@ use mathlib.Core.List.{List, [], _∷_}
 use Prim.Native.Nat.{ℕ, _^_, _-_}
 use Rattle.rules.specs.Kinds.{A, B}
 use Rattle.rules.specs.Tight.{Rule}
-use Rattle.search.specs.Search.{found, none, gave-up}
-use Rattle.reasons.specs.Says.{FORCED}
-use Rattle.causes.specs.Cause.{CAUSE}
+use Rattle.search_theory.specs.Search.{found, none, gave-up}
+use Rattle.reason_theory.specs.Says.{FORCED}
+use Rattle.cause_theory.specs.Cause.{CAUSE}
 use Rattle.lists.specs.Lists.{zeros}
 use Rattle.boards.specs.Row.{Problem, Row, solve, ceiling, explain, cause, file}
 

@@ -13,11 +13,11 @@ use Rattle.rules.specs.Tightening.{Widest}
 use Rattle.checker.specs.declared.Checked.{Checked}
 use Rattle.checker.specs.declared.Checked.the-variants.{Ok}
 use Rattle.checker.specs.Refusal.{refusal, refusalWith}
-use Rattle.search.specs.Search.{Outcome, Search}
-use Rattle.search.specs.Ceiling.{Ceiling}
-use Rattle.reasons.specs.Says.{Answer}
-use Rattle.reasons.specs.Reason.{Explains}
-use Rattle.causes.specs.Cause.{Cause, Causes}
+use Rattle.search_theory.specs.Search.{Outcome, Search}
+use Rattle.search_theory.specs.Ceiling.{Ceiling}
+use Rattle.reason_theory.specs.Says.{Answer}
+use Rattle.reason_theory.specs.Reason.{Explains}
+use Rattle.cause_theory.specs.Cause.{Cause, Causes}
 use Rattle.blocks.specs.Edition.{edition1}
 use Rattle.blocks.specs.Written.{encode}
 

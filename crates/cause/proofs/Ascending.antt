@@ -5,7 +5,7 @@ use native.Mathlib.Omega.{arith}
 use Rattle.lists.specs.Lists.{at}
 use Rattle.problem.specs.Lent.{ruleCount, ruleAt}
 use Rattle.lists.proofs.Series.{length-series}
-use Rattle.causes.proofs.Ascending.{cause-ascending, cause-below}
+use Rattle.cause_theory.proofs.Ascending.{cause-ascending, cause-below}
 use Rattle.cause.specs.declared.Caused.the-variants as answer
 use Rattle.cause.specs.Promise.{Causing, caused-by}
 

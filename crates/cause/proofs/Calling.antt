@@ -17,13 +17,13 @@ use Rattle.checker.proofs.Rooms.{first-short, second-short, roomy, has-room}
 use Rattle.lists.proofs.Series.{length-series, series-at}
 use Rattle.tighten.specs.Memory.{tableIn, Numbered, Cleared}
 use Rattle.tighten.proofs.Calling.{all-chosen, all-listed}
-use Rattle.search.proofs.Limit.{answer-none, count-limit}
-use Rattle.searcher.specs.declared.Answer.{Answer}
-use Rattle.searcher.specs.declared.Answer.the-variants.{Found, Nothing, GaveUp}
-use Rattle.searcher.specs.Searching.{outcomeOf}
-use Rattle.searcher.specs.Starting.{Asked, Sought}
-use Rattle.causes.specs.Cause.{Cause, CAUSE, Tried, Trims, exists, gives-up, trimmed}
-use Rattle.causes.proofs.Without.{cause-some}
+use Rattle.search_theory.proofs.Limit.{answer-none, count-limit}
+use Rattle.search.specs.declared.Answer.{Answer}
+use Rattle.search.specs.declared.Answer.the-variants.{Found, Nothing, GaveUp}
+use Rattle.search.specs.Searching.{outcomeOf}
+use Rattle.search.specs.Starting.{ToSearch, Sought}
+use Rattle.cause_theory.specs.Cause.{Cause, CAUSE, Tried, Trims, exists, gives-up, trimmed}
+use Rattle.cause_theory.proofs.Without.{cause-some}
 use Rattle.cause.specs.declared.Caused.{Caused}
 use Rattle.cause.specs.declared.Caused.the-variants as answer
 use Rattle.cause.specs.declared.Trimmed.{Trimmed}
@@ -74,7 +74,7 @@ module _ {limit : ℕ} {ws bs s l : List ℕ} (given : CauseGiven limit ws bs s 
   -- ---- the first search
 
   module _ {k : List ℕ} (y : Numbered (ruleCount bs) l k) where
-    pub asked : Asked ws bs k (ruleCount bs)
+    pub asked : ToSearch ws bs k (ruleCount bs)
     asked = record {
       sized = fine .sized;
       problem = fine .problem;

@@ -11,10 +11,10 @@ use Rattle.lists.specs.Lists.{at}
 use Rattle.rules.specs.Tight.{rule, AllHold}
 use Rattle.rules.proofs.Propers.{proper-inside}
 use Rattle.problem.specs.Lent.{widthsOf, tableOf, rulesOf}
-use Rattle.search.specs.Settings.{Settings, Without}
-use Rattle.causes.specs.Cause.{CAUSE}
-use Rattle.causes.proofs.Without.{cause-without, cause-some}
-use Rattle.causes.proofs.Irreducible.{In, cause-irreducible}
+use Rattle.search_theory.specs.Settings.{Settings, Without}
+use Rattle.cause_theory.specs.Cause.{CAUSE}
+use Rattle.cause_theory.proofs.Without.{cause-without, cause-some}
+use Rattle.cause_theory.proofs.Irreducible.{In, cause-irreducible}
 use Rattle.cause.specs.declared.Caused.the-variants as answer
 use Rattle.cause.specs.Promise.{Named, Causing, caused-by, CauseGiven}
 use Rattle.cause.proofs.Calling.{fine}

@@ -10,8 +10,8 @@ use Rattle.checker.proofs.Firsts.{refused-not-ok}
 use Rattle.lists.specs.Lists.{at}
 use Rattle.problem.specs.Lent.{widthsOf, tableOf, rulesOf}
 use Rattle.tighten.proofs.Once.{cleared-once}
-use Rattle.causes.specs.Cause.{Cause, EXISTS, CAUSE, GAVE-UP}
-use Rattle.causes.proofs.One.{one-cause}
+use Rattle.cause_theory.specs.Cause.{Cause, EXISTS, CAUSE, GAVE-UP}
+use Rattle.cause_theory.proofs.One.{one-cause}
 use Rattle.cause.specs.declared.Caused.{Caused}
 use Rattle.cause.specs.Promise.{Named, Entered, Causing, refused, exists-at, gave-up-at, caused-by}
 

@@ -7,8 +7,8 @@ use native.Mathlib.Omega.{arith}
 use lib.ListN.{length}
 use Rattle.lists.specs.Lists.{series}
 use Rattle.problem.specs.Lent.{ruleCount}
-use Rattle.search.proofs.Limit.{answer-found, answer-none, count-limit}
-use Rattle.causes.specs.Cause.{Cause, CAUSE, GAVE-UP, decided, spared, needed, unknown}
+use Rattle.search_theory.proofs.Limit.{answer-found, answer-none, count-limit}
+use Rattle.cause_theory.specs.Cause.{Cause, CAUSE, GAVE-UP, decided, spared, needed, unknown}
 use Rattle.cause.specs.declared.Trial.{Trial}
 use Rattle.cause.specs.Listing.{keptIn, Standing}
 use Rattle.cause.specs.Trials.{TrimsTo, Trying, Tries, dropped, kept-on, given-up, Trimming, TrialsEnd, all-decided, one-gave-up}

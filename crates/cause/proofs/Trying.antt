@@ -13,11 +13,11 @@ use Rattle.problem.specs.Lent.{ruleCount, ruleAt, rulesOf, wordCount}
 use Rattle.problem.proofs.Lents.{rule-at}
 use Rattle.tighten.specs.Memory.{tableIn, chosen}
 use Rattle.lists.proofs.Series.{series-same, series-add, series-take, series-map}
-use Rattle.searcher.specs.declared.Answer.{Answer}
-use Rattle.searcher.specs.declared.Answer.the-variants.{Found, Nothing, GaveUp}
-use Rattle.searcher.specs.Searching.{outcomeOf}
-use Rattle.searcher.specs.Starting.{Asked, Sought}
-use Rattle.causes.specs.Cause.{trial}
+use Rattle.search.specs.declared.Answer.{Answer}
+use Rattle.search.specs.declared.Answer.the-variants.{Found, Nothing, GaveUp}
+use Rattle.search.specs.Searching.{outcomeOf}
+use Rattle.search.specs.Starting.{ToSearch, Sought}
+use Rattle.cause_theory.specs.Cause.{trial}
 use Rattle.cause.specs.Listing.{keptIn, Removed, Inserted}
 use Rattle.cause.specs.Trials.{TriedFor, Trying, Left, Tries, dropped, kept-on, given-up}
 
@@ -47,7 +47,7 @@ module _ {ws bs l : List ℕ} {n k : ℕ} (t : Trying ws bs l n k) {m : List ℕ
           let low : at m (64 + n + (j - n)) < ruleCount bs = rw (moved (j - n) (omega arith)) (t .standing .kept (j - n) (omega arith)) in
           rw e at low
 
-  pub trial-asked : Asked ws bs m (n + k)
+  pub trial-asked : ToSearch ws bs m (n + k)
   trial-asked = record {
     sized = t .lent .sized;
     problem = t .lent .problem;

@@ -9,8 +9,8 @@ use Rattle.checker.specs.declared.Checked.the-variants.{Ok, Refused}
 use Rattle.problem.specs.Lent.{widthsOf, tableOf, ruleCount, rulesOf}
 use Rattle.checker.specs.Refusal.{refusalWith, withRoom}
 use Rattle.tighten.specs.Memory.{Cleared}
-use Rattle.search.specs.Search.{none}
-use Rattle.causes.specs.Cause.{Cause, EXISTS, CAUSE, GAVE-UP, Tried, Causes}
+use Rattle.search_theory.specs.Search.{none}
+use Rattle.cause_theory.specs.Cause.{Cause, EXISTS, CAUSE, GAVE-UP, Tried, Causes}
 use Rattle.cause.specs.declared.Caused.{Caused}
 use Rattle.cause.specs.declared.Caused.the-variants as answer
 

@@ -7,15 +7,15 @@ use lib.ListN.{length}
 use Rattle.rules.specs.ProperProblem.{ProperProblem}
 use Rattle.problem.specs.Lent.{widthsOf, tableOf, ruleCount, rulesOf}
 use Rattle.checker.specs.Demands.{Sized, most-guesses}
-use Rattle.search.specs.Search.{Outcome, found, none, gave-up}
-use Rattle.searcher.specs.Starting.{memoryLength}
-use Rattle.causes.specs.Cause.{Cause, CAUSE, GAVE-UP, trial, Tried, Trims}
+use Rattle.search_theory.specs.Search.{Outcome, found, none, gave-up}
+use Rattle.search.specs.Starting.{memoryLength}
+use Rattle.cause_theory.specs.Cause.{Cause, CAUSE, GAVE-UP, trial, Tried, Trims}
 use Rattle.cause.specs.declared.Trial.{Trial}
 use Rattle.cause.specs.declared.Trimmed.{Trimmed}
 use Rattle.cause.specs.Listing.{keptIn, Standing}
 
 -- a proper problem with room for its searches
-pub record Room (ws bs l : List ℕ) : Type 0 where
+pub record TrialRoom (ws bs l : List ℕ) : Type 0 where
   pub sized : Sized ws bs
   pub problem : ProperProblem (widthsOf ws) (tableOf ws) (rulesOf bs)
   pub room : memoryLength ≤ length l
@@ -30,7 +30,7 @@ TrimsTo ws bs limit n kept c x = Trims (widthsOf ws) (rulesOf bs) limit (tableOf
 
 -- rule n is to be tried, with n rules below it not decided and k kept
 pub record Trying (ws bs l : List ℕ) (n k : ℕ) : Type 0 where
-  pub lent : Room ws bs l
+  pub lent : TrialRoom ws bs l
   pub standing : Standing bs l (suc n) k
 
 -- n rules are left to be decided in memory m, and k rules, those of the list, are kept
@@ -49,7 +49,7 @@ pub data Tries (ws bs : List ℕ) (limit n k : ℕ) (l : List ℕ) (r : Trial) (
 
 -- all rules are to be tried, after a first search of so many guesses
 pub record Trimming (ws bs l : List ℕ) (limit first : ℕ) : Type 0 where
-  pub lent : Room ws bs l
+  pub lent : TrialRoom ws bs l
   pub standing : Standing bs l (ruleCount bs) 0
   pub low : limit ≤ most-guesses
   pub few : first ≤ most-guesses

@@ -10,8 +10,8 @@ fn attempt(work: &mut [u64], words: &[u64], rules: &[u8], n: usize, k: usize, li
     ensures { λ r. ⌜ Tries (now (words .entry)) (now (rules .entry)) limit n k (now (work .entry)) r (now (work .exit)) ⌝ }
 {
     list::remove(work, n, k);
-    match searcher::search_problem(work, words, rules, n + k, limit) {
-        searcher::Answer::Found(count) => {
+    match search::search_problem(work, words, rules, n + k, limit) {
+        search::Answer::Found(count) => {
             list::insert(work, n, k);
             Trial {
                 decided: true,
@@ -19,12 +19,12 @@ fn attempt(work: &mut [u64], words: &[u64], rules: &[u8], n: usize, k: usize, li
                 kept: k + 1,
             }
         }
-        searcher::Answer::Nothing(count) => Trial {
+        search::Answer::Nothing(count) => Trial {
             decided: true,
             count,
             kept: k,
         },
-        searcher::Answer::GaveUp => Trial {
+        search::Answer::GaveUp => Trial {
             decided: false,
             count: limit,
             kept: k,

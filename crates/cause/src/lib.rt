@@ -76,13 +76,13 @@ fn cause_proper(
 {
     let c = rules.len() / problem::FIELDS;
     tighten::buffer::list_all(work, c);
-    match searcher::search_problem(work, words, rules, c, limit) {
-        searcher::Answer::Found(count) => {
+    match search::search_problem(work, words, rules, c, limit) {
+        search::Answer::Found(count) => {
             tighten::buffer::clear(work);
             Caused::Exists(count)
         }
-        searcher::Answer::Nothing(count) => trials(words, rules, limit, count, list, work),
-        searcher::Answer::GaveUp => {
+        search::Answer::Nothing(count) => trials(words, rules, limit, count, list, work),
+        search::Answer::GaveUp => {
             tighten::buffer::clear(work);
             Caused::GaveUp(limit)
         }

@@ -15,7 +15,7 @@ use Rattle.rules.specs.Rows.{Class, equal-r-a, equal-r-a-b, chosen, part, joine
 use Rattle.rules.specs.Tight.{word}
 use Rattle.problem.specs.declared.Widths.{Widths}
 use Rattle.problem.specs.Lent.{widthAt}
-use Rattle.problem.specs.Rows.{classOf, classNumber, entry}
+use Rattle.problem.specs.Rows.{classOf, classNumber, rowEntry}
 use Rattle.checker.specs.Tests.{fitsAs, isFitting}
 
 pub part-test : (k r a : ℕ) → r ≤ a → leb k (a - r) ≡ leb (k + r) a
@@ -65,7 +65,7 @@ words-placed : (ws : List ℕ) (x : Fields) → widthOf (widthsAt ws x) ≡ (λ 
 unfolding widthsAt
 words-placed ws x = fun-ext (λ p. elim p [ R ↦ refl | A ↦ refl | B ↦ refl | S ↦ refl ])
 
-pub fitting : (ws : List ℕ) (x : Fields) (c : ℕ) (w : Widths) → c ≡ entry (kindOf (x .kind)) 0 → w ≡ widthsAt ws x
+pub fitting : (ws : List ℕ) (x : Fields) (c : ℕ) (w : Widths) → c ≡ rowEntry (kindOf (x .kind)) 0 → w ≡ widthsAt ws x
     → fitsAs (classOf c) (widthOf w) (x .k) ≡ isFitting ws (ruleOf x)
 unfolding isFitting
 fitting ws x c w ec ew = rw (ew, words-placed ws x, ec, class-of (class (kindOf (x .kind))))

@@ -17,8 +17,8 @@ use Rattle.problem.specs.declared.Bounds.{Bounds}
 use Rattle.hull.specs.declared.Narrowed.{Narrowed}
 use Rattle.problem.specs.Places.{loOf, hiOf, spanOf}
 use Rattle.hull.specs.Narrowing.{Narrows}
-use Rattle.reasons.specs.Says.{Answer, CONFLICT, FORCED, FREE, Says, says-conflict, says-forced, says-free}
-use Rattle.reasons.proofs.One.{one-answer}
+use Rattle.reason_theory.specs.Says.{Answer, CONFLICT, FORCED, FREE, Says, says-conflict, says-forced, says-free}
+use Rattle.reason_theory.proofs.One.{one-answer}
 use Rattle.explain.specs.declared.Said.{Said}
 use Rattle.explain.specs.declared.Said.the-variants as said
 use Rattle.explain.specs.declared.Question.{Question}

@@ -11,8 +11,8 @@ use Rattle.checker.specs.Refusal.{refusal}
 use Rattle.checker.proofs.Rooms.{first-short, roomy}
 use Rattle.problem.specs.declared.Bounds.{Bounds}
 use Rattle.problem.specs.Places.{spanOf}
-use Rattle.reasons.specs.Says.{CONFLICT, FORCED, FREE, Says}
-use Rattle.reasons.specs.Reason.{no-reason, with-reason}
+use Rattle.reason_theory.specs.Says.{CONFLICT, FORCED, FREE, Says}
+use Rattle.reason_theory.specs.Reason.{no-reason, with-reason}
 use Rattle.explain.specs.declared.Question.{Question}
 use Rattle.explain.specs.declared.Said.{Said}
 use Rattle.explain.specs.declared.Said.the-variants as said

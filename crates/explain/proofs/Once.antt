@@ -8,9 +8,9 @@ use Rattle.checker.proofs.Firsts.{refused-not-ok}
 use Rattle.rules.specs.Kinds.{Place}
 use Rattle.rules.specs.Meaning.{Shape}
 use Rattle.rules.specs.Fits.{Span}
-use Rattle.reasons.proofs.One.{one-explanation}
+use Rattle.reason_theory.proofs.One.{one-explanation}
 use Rattle.explain.specs.declared.Explained.{Explained}
-use Rattle.explain.specs.Dropping.{written}
+use Rattle.explain.specs.Dropping.{reasonPut}
 use Rattle.explain.specs.Promise.{given, Explanation, Judged, not-asked, answered, Explaining, refused, judged}
 
 given-once : {σ : Shape} {t : Span} {p : Place} {j : ℕ} {l m k : List ℕ} {x y : Explained} → Explanation σ t p j l x m → Explanation σ t p j l y k
@@ -18,7 +18,7 @@ given-once : {σ : Shape} {t : Span} {p : Place} {j : ℕ} {l m k : List ℕ} {x
 given-once {l = l} g h =
     let (e, o) = one-explanation (g .explains) (h .explains) in (
       g .told ∙ ap (λ a. given a (length (g .out))) e ∙ ap (λ (w : List ℕ). given (h .answer) (length w)) o ∙ sym (h .told),
-      g .list ∙ ap (λ (w : List ℕ). written w l) o ∙ sym (h .list),
+      g .list ∙ ap (λ (w : List ℕ). reasonPut w l) o ∙ sym (h .list),
     )
 
 module _ {ws bs : List ℕ} {n p j : ℕ} {l : List ℕ} where

@@ -8,7 +8,7 @@ use Rattle.words.proofs.Order.{bit-lt}
 use Rattle.rules.specs.Kinds.{Place, R, A, B, S}
 use Rattle.problem.specs.declared.Bounds.{Bounds}
 use Rattle.problem.specs.Places.{loOf, hiOf, spanOf}
-use Rattle.reasons.specs.Reason.{cleared, filled, placed, opened}
+use Rattle.reason_theory.specs.Reason.{cleared, filled, placed, opened}
 use Rattle.explain.specs.Places.{placeOf}
 
 -- ---- a bit made 0 and made 1: 2^b goes or comes where it must

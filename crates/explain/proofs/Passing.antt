@@ -13,9 +13,9 @@ use Rattle.rules.specs.Meaning.{Shape}
 use Rattle.rules.specs.Fits.{Span, Legal}
 use Rattle.problem.specs.declared.Bounds.{Bounds}
 use Rattle.problem.specs.Places.{loOf, hiOf, spanOf}
-use Rattle.reasons.specs.Says.{Answer, Says}
-use Rattle.reasons.specs.Reason.{Spot, spot, entry, opened, Reason, all-seen, dropped, kept, fixedBit}
-use Rattle.reasons.proofs.Opened.{opened-legal}
+use Rattle.reason_theory.specs.Says.{Answer, Says}
+use Rattle.reason_theory.specs.Reason.{Spot, spot, entry, opened, Reason, all-seen, dropped, kept, fixedBit}
+use Rattle.reason_theory.proofs.Opened.{opened-legal}
 use Rattle.explain.specs.declared.Question.{Question}
 use Rattle.explain.specs.declared.Said.{Said}
 use Rattle.explain.specs.declared.Kept.{Kept}

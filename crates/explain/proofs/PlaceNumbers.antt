@@ -7,7 +7,7 @@ use Rattle.words.specs.Bits.{bit}
 use Rattle.rules.specs.Kinds.{S, Kind}
 use Rattle.rules.specs.Rows.{uses}
 use Rattle.problem.specs.Rows.{usesField}
-use Rattle.reasons.specs.Reason.{placeNo}
+use Rattle.reason_theory.specs.Reason.{placeNo}
 use Rattle.explain.specs.Places.{last, placeOf}
 
 pub last-place : (p : ℕ) → p ≢ 0 → p ≢ 1 → p ≢ 2 → placeOf p ≡ S

@@ -15,15 +15,15 @@ use Rattle.rules.proofs.ProperRules.{rule-legal}
 use Rattle.checker.specs.declared.Checked.the-variants.{Refused, Ok}
 use Rattle.problem.specs.Lent.{widthsOf, tableOf, rulesOf}
 use Rattle.lists.proofs.Series.{length-series}
-use Rattle.reasons.specs.Says.{Answer, CONFLICT, FORCED, FREE, Says}
-use Rattle.reasons.specs.Reason.{entry, opened, fixedOf, Explains, no-reason, with-reason}
-use Rattle.reasons.specs.Alone.{listed, alone}
-use Rattle.reasons.proofs.Kept.{reason-enough, reason-needs}
-use Rattle.reasons.proofs.Listed.{reason-length}
+use Rattle.reason_theory.specs.Says.{Answer, CONFLICT, FORCED, FREE, Says}
+use Rattle.reason_theory.specs.Reason.{entry, opened, fixedOf, Explains, no-reason, with-reason}
+use Rattle.reason_theory.specs.Alone.{listed, alone}
+use Rattle.reason_theory.proofs.Kept.{reason-enough, reason-needs}
+use Rattle.reason_theory.proofs.Listed.{reason-length}
 use Rattle.explain.specs.declared.Explained.{Explained}
 use Rattle.explain.specs.declared.Explained.the-variants as explained
 use Rattle.explain.specs.Places.{placeOf}
-use Rattle.explain.specs.Dropping.{written}
+use Rattle.explain.specs.Dropping.{reasonPut}
 use Rattle.explain.specs.Promise.{entries, given, Explanation, Tells, tells-conflict, tells-forced, Judged, not-asked, answered, Explaining, refused, judged, explainRefusal}
 use Rattle.checker.proofs.Rooms.{taken}
 
@@ -101,7 +101,7 @@ told-free FREE k e = refl
 given-free : {σ : Shape} {t : Span} {p : Place} {j : ℕ} {l m : List ℕ} → Explanation σ t p j l explained.Free m → m ≡ l
 given-free {l = l} g =
     let none : g .out ≡ [] = free-reason (rw (told-free (g .answer) (length (g .out)) (g .told)) at (g .explains)) in
-    g .list ∙ ap (λ (w : List ℕ). written w l) none
+    g .list ∙ ap (λ (w : List ℕ). reasonPut w l) none
 
 judged-free : {ws bs : List ℕ} {n p j : ℕ} {l m : List ℕ} → Judged ws bs n p j l explained.Free m → m ≡ l
 judged-free (answered a g) = given-free g

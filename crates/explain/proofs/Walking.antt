@@ -12,8 +12,8 @@ use Rattle.problem.specs.Places.{widthOf, spanOf}
 use Rattle.rules.specs.Rows.{uses}
 use Rattle.rules.specs.Fits.{Span}
 use Rattle.problem.specs.declared.Bounds.{Bounds}
-use Rattle.reasons.specs.Reason.{Spot, fixedFrom, fixedAt, fixedOf}
-use Rattle.reasons.proofs.Rising.{fixed-length}
+use Rattle.reason_theory.specs.Reason.{Spot, fixedFrom, fixedAt, fixedOf}
+use Rattle.reason_theory.proofs.Rising.{fixed-length}
 use Rattle.explain.specs.declared.Question.{Question}
 use Rattle.explain.specs.declared.Said.{Said}
 use Rattle.explain.specs.declared.Kept.{Kept}

@@ -11,7 +11,7 @@ use Rattle.rules.specs.ProperProblem.{KindNumber}
 use Rattle.problem.specs.declared.Bounds.{Bounds}
 use Rattle.hull.specs.declared.Narrowed.{Narrowed}
 use Rattle.problem.specs.Places.{loOf, hiOf, shapeOf, spanOf}
-use Rattle.reasons.specs.Says.{Answer, CONFLICT, FORCED, FREE}
+use Rattle.reason_theory.specs.Says.{Answer, CONFLICT, FORCED, FREE}
 use Rattle.explain.specs.declared.Question.{Question}
 use Rattle.explain.specs.declared.Said.{Said}
 use Rattle.explain.specs.declared.Said.the-variants as said

@@ -10,8 +10,8 @@ use Rattle.problem.specs.Places.{widthOf, spanOf}
 use Rattle.rules.specs.Meaning.{Shape}
 use Rattle.rules.specs.Fits.{Span, Legal}
 use Rattle.problem.specs.declared.Bounds.{Bounds}
-use Rattle.reasons.specs.Says.{Answer}
-use Rattle.reasons.specs.Reason.{Spot, spot, Reason, fixedBit, fixedAt, fixedOf}
+use Rattle.reason_theory.specs.Says.{Answer}
+use Rattle.reason_theory.specs.Reason.{Spot, spot, Reason, fixedBit, fixedAt, fixedOf}
 use Rattle.explain.specs.declared.Question.{Question}
 use Rattle.explain.specs.declared.Said.{Said}
 use Rattle.explain.specs.declared.Kept.{Kept}
@@ -50,12 +50,12 @@ pub record PlaceAsked (q : Question) (g : Bounds) (s : Kept) (p : ℕ) (l : List
   pub room : s .count + length (fixedAt (shapeIn q) (spanOf g) (placeOf p)) ≤ length l
 
 -- the list l with the entries out at its beginning, the rest unchanged
-abbrev pub written : List ℕ → List ℕ → List ℕ
-written out l = out ++ drop (length out) l
+abbrev pub reasonPut : List ℕ → List ℕ → List ℕ
+reasonPut out l = out ++ drop (length out) l
 
 -- r entries stand in the list, which are the reason for the answer x over the bounds t
 pub record Reasoned (q : Question) (x : Said) (t : Bounds) (l : List ℕ) (r : ℕ) (m : List ℕ) : Type 0 where
   pub out : List ℕ
   pub reason : Reason (shapeIn q) (placeIn q) (q .bit) (answer x) (spanOf t) (fixedOf (shapeIn q) (spanOf t)) out
   pub count : r ≡ length out
-  pub list : m ≡ written out l
+  pub list : m ≡ reasonPut out l

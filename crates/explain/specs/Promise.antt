@@ -11,13 +11,13 @@ use Rattle.checker.specs.declared.Checked.{Checked}
 use Rattle.checker.specs.declared.Checked.the-variants.{Ok, Refused}
 use Rattle.problem.specs.Lent.{widthsOf, tableOf, ruleCount, rulesOf}
 use Rattle.checker.specs.Refusal.{refusal, withRoom}
-use Rattle.reasons.specs.Says.{Answer, CONFLICT, FORCED, FREE}
-use Rattle.reasons.specs.Reason.{Explains}
+use Rattle.reason_theory.specs.Says.{Answer, CONFLICT, FORCED, FREE}
+use Rattle.reason_theory.specs.Reason.{Explains}
 use Rattle.explain.specs.declared.Explained.{Explained}
 use Rattle.explain.specs.declared.Explained.the-variants as explained
 use Rattle.explain.specs.Places.{placeOf}
 use Rattle.explain.specs.Asking.{OpenBit}
-use Rattle.explain.specs.Dropping.{written}
+use Rattle.explain.specs.Dropping.{reasonPut}
 
 -- the entries for which room is asked
 abbrev pub entries : ℕ
@@ -48,7 +48,7 @@ pub record Explanation (σ : Shape) (t : Span) (p : Place) (j : ℕ) (l : List �
   pub out : List ℕ
   pub explains : Explains σ t p j answer out
   pub told : r ≡ given answer (length out)
-  pub list : m ≡ written out l
+  pub list : m ≡ reasonPut out l
 
 module _ (ws bs : List ℕ) (n p j : ℕ) where
   -- there is a rule n, and bit j of its place p is open in the table as given

@@ -7,7 +7,7 @@ use crate::saying;
 ghost use Prim.Native.Nat.{_≤_};
 ghost use lib.ListN.{length};
 ghost use Rattle.problem.specs.Places.{spanOf};
-ghost use Rattle.reasons.specs.Reason.{fixedAt};
+ghost use Rattle.reason_theory.specs.Reason.{fixedAt};
 ghost use Rattle.explain.specs.Places.{placeOf};
 ghost use Rattle.explain.specs.Asking.{shapeIn, Asks};
 ghost use Rattle.explain.specs.Dropping.{spotAt, BitAsked, PlaceAsked, Gone, Reasoned};

@@ -3,7 +3,7 @@ ghost use mathlib.Core.Path.{_≡_};
 ghost use Prim.Native.Nat.{_<_};
 ghost use Rattle.words.specs.Bits.{bit};
 ghost use Rattle.problem.specs.Places.{widthOf, loOf, hiOf, spanOf};
-ghost use Rattle.reasons.specs.Reason.{cleared, filled, opened};
+ghost use Rattle.reason_theory.specs.Reason.{cleared, filled, opened};
 ghost use Rattle.explain.specs.Places.{placeOf};
 
 // Bit b of n.

@@ -5,7 +5,7 @@ use crate::places;
 ghost use mathlib.Core.Path.{_≡_};
 ghost use Prim.Native.Nat.{_<_};
 ghost use Rattle.problem.specs.Places.{spanOf};
-ghost use Rattle.reasons.specs.Says.{Says};
+ghost use Rattle.reason_theory.specs.Says.{Says};
 ghost use Rattle.lists.specs.Tests.{Decides};
 ghost use Rattle.explain.specs.Asking.{shapeIn, placeIn, answer, saidBy, Asks};
 

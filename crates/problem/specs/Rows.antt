@@ -31,6 +31,6 @@ usesField κ (suc (suc (suc (suc zero)))) = uses κ S
 usesField κ (suc (suc (suc (suc (suc c))))) = usesK κ
 
 -- what stands in a kind's row: its class where the rule has its kind, then 1 for a field in use and 0 for one that is not
-abbrev pub entry : Kind → ℕ → ℕ
-entry κ zero = classNumber (class κ)
-entry κ (suc c) = one (usesField κ (suc c))
+abbrev pub rowEntry : Kind → ℕ → ℕ
+rowEntry κ zero = classNumber (class κ)
+rowEntry κ (suc c) = one (usesField κ (suc c))

@@ -5,7 +5,7 @@ ghost use Rattle.rules.specs.Kinds.{R, S, kindOf};
 ghost use Rattle.rules.specs.Rows.{uses};
 ghost use Rattle.rules.specs.ProperProblem.{KindNumber};
 ghost use Rattle.problem.specs.Lent.{fields};
-ghost use Rattle.problem.specs.Rows.{usesField, entry};
+ghost use Rattle.problem.specs.Rows.{usesField, rowEntry};
 
 // The kinds by their numbers.
 pub const COPY: usize = 1;
@@ -61,7 +61,7 @@ const ROWS: [[u8; 6]; 14] = [
 // What stands in a kind's row.
 pub fn row(kind: usize, column: usize) -> u8
     requires { ⌜ KindNumber kind × (column < fields) ⌝ }
-    ensures { λ r. ⌜ r ≡ entry (kindOf kind) column ⌝ }
+    ensures { λ r. ⌜ r ≡ rowEntry (kindOf kind) column ⌝ }
 {
     let at = kind - 1;
     ROWS[at][column]

@@ -4,7 +4,7 @@ use mathlib.Core.List.{List}
 use Prim.Native.Nat.{ℕ}
 use native.Mathlib.Omega.{arith}
 use Rattle.lists.specs.Lists.{at, part}
-use Rattle.blocks.specs.Bytes.{number}
+use Rattle.blocks.specs.Bytes.{fromLe}
 use Rattle.blocks.specs.Edition.{edition1}
 use Rattle.blocks.specs.Block.{sixteen, Sound, Clear, Records, Header}
 use Rattle.reader.specs.declared.Body.{Body}
@@ -26,7 +26,7 @@ module _ {i : ℕ} {b : List ℕ} (head : Head i b) where
   pub is-rules : {c : ℕ} → at b 0 ≡ 2 → c ≡ sixteen b 2 → Records 8 6 63 c b → Is i b (Body.Rules c)
   is-rules k n r = rules-block (record { header = header k n; records = r })
 
-  pub is-end : {l c : ℕ} → at b 0 ≡ 3 → c ≡ sixteen b 2 → c ≡ 0 → l ≡ number (part b 8 4) → Clear b 12 512 → Is i b (Body.End l)
+  pub is-end : {l c : ℕ} → at b 0 ≡ 3 → c ≡ sixteen b 2 → c ≡ 0 → l ≡ fromLe (part b 8 4) → Clear b 12 512 → Is i b (Body.End l)
   is-end k n z e r = end-block (record { header = header k (sym z ∙ n); limit-is = sym e; rest = r })
 
 -- ---- none of them

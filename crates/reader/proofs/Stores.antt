@@ -7,7 +7,7 @@ use native.Mathlib.Omega.{arith}
 use lib.ListN.{length, take, drop, set}
 use lib.Seq.{take-at}
 use Rattle.lists.specs.Lists.{at, part, put}
-use Rattle.blocks.specs.Bytes.{number}
+use Rattle.blocks.specs.Bytes.{fromLe}
 use Rattle.blocks.specs.Edition.{edition1}
 use Rattle.blocks.specs.Written.{wordBlocks}
 use Rattle.blocks.specs.Decode.{slot, wordsIn, rulesIn}
@@ -15,16 +15,16 @@ use Rattle.lists.proofs.Series.{series-at}
 use Rattle.lists.proofs.Puts.{put-turn, put-end}
 use Rattle.blocks.proofs.WriteBack.{length-words, length-rules}
 
-at-words : (f : List ℕ) (n x : ℕ) → x < 3 * n → number (part f (slot x) 8) ≡ at (wordsIn f n) x
+at-words : (f : List ℕ) (n x : ℕ) → x < 3 * n → fromLe (part f (slot x) 8) ≡ at (wordsIn f n) x
 unfolding wordsIn
-at-words f n x h = sym (series-at 0 (3 * n) x (λ y. number (part f (slot y) 8)) h)
+at-words f n x h = sym (series-at 0 (3 * n) x (λ y. fromLe (part f (slot y) 8)) h)
 
 at-rules : (f : List ℕ) (n m x : ℕ) → x < 6 * m → at f (512 * wordBlocks edition1 n + slot (x / 6) + x % 6) ≡ at (rulesIn f n m) x
 unfolding rulesIn
 at-rules f n m x h = sym (series-at 0 (6 * m) x (λ y. at f (512 * wordBlocks edition1 n + slot (y / 6) + y % 6)) h)
 
 module _ (f : List ℕ) (n : ℕ) where
-  pub words-turn : (a y : List ℕ) (x v : ℕ) → 3 * n ≤ length a → x < 3 * n → y ≡ put a 0 (take x (wordsIn f n)) → v ≡ number (part f (slot x) 8)
+  pub words-turn : (a y : List ℕ) (x v : ℕ) → 3 * n ≤ length a → x < 3 * n → y ≡ put a 0 (take x (wordsIn f n)) → v ≡ fromLe (part f (slot x) 8)
       → set y x v ≡ put a 0 (take (x + 1) (wordsIn f n))
   words-turn a y x v room h e q =
       let k = length-words f n in

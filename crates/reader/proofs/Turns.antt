@@ -18,16 +18,16 @@ use Rattle.reader.specs.declared.Step.{Step}
 use Rattle.reader.specs.declared.State.{State}
 use Rattle.reader.specs.declared.Turn.{Turn}
 use Rattle.reader.specs.declared.Scan.{Scan}
-use Rattle.reader.specs.Scans.{Stuck, Stepped, words-step, rules-step, end-step, fault-step, Stands, going, ended, Turned, on, stop, Scanned}
+use Rattle.reader.specs.Scans.{Stuck, BlockStep, words-step, rules-step, end-step, fault-step, Stands, going, ended, Turned, on, stop, Scanned}
 
 -- the part that the code looks at is the block
 pub cut : (f : List ℕ) (i : ℕ) → take (512 * i + 512 - 512 * i) (drop (512 * i) f) ≡ blockAt f i
 unfolding part
 cut f i = let z : 512 * i + 512 - 512 * i ≡ 512 = omega arith in rw z
 
-pub stepped-there : (f : List ℕ) (i : ℕ) {n m : ℕ} {s : Step} → Stepped (take (512 * i + 512 - 512 * i) (drop (512 * i) f)) i n m s
-    → Stepped (blockAt f i) i n m s
-stepped-there f i {n} {m} {s} = subst (λ b. Stepped b i n m s) (cut f i)
+pub stepped-there : (f : List ℕ) (i : ℕ) {n m : ℕ} {s : Step} → BlockStep (take (512 * i + 512 - 512 * i) (drop (512 * i) f)) i n m s
+    → BlockStep (blockAt f i) i n m s
+stepped-there f i {n} {m} {s} = subst (λ b. BlockStep b i n m s) (cut f i)
 
 pub sum-right : {b : List ℕ} {s : ℕ} → s ≡ sum b % 65536 → s ≡ 65535 → Sound b
 sum-right e h = record { makes = sym e ∙ h }
@@ -86,15 +86,15 @@ module _ {f : List ℕ} {i : ℕ} (here : Here f i) where
   turn-ended x s = at-fault x s (ended-accepts f (of-ended x))
 
   module _ {n m : ℕ} (x : Stands f i (State.Going n m)) where
-    pub turn-fault : Sound (blockAt f i) → Stepped (blockAt f i) i n m Step.Fault → Turned f i (Turn.Stop 3 i)
+    pub turn-fault : Sound (blockAt f i) → BlockStep (blockAt f i) i n m Step.Fault → Turned f i (Turn.Stop 3 i)
     turn-fault s (fault-step t) = at-fault x s (stuck-accepts f (of-going x) t)
 
-    pub turn-go : {n′ m′ : ℕ} → Stepped (blockAt f i) i n m (Step.Go n′ m′) → Turned f i (Turn.On (State.Going n′ m′))
+    pub turn-go : {n′ m′ : ℕ} → BlockStep (blockAt f i) i n m (Step.Go n′ m′) → Turned f i (Turn.On (State.Going n′ m′))
     turn-go {n′} (words-step {c = c} b p q e l z) =
         on (going (subst (λ k. Run edition1 f (suc i) n′ k) (sym z) (more-words {c = c} (subst (λ k. Run edition1 f i n k) p (of-going x)) q e l b)))
     turn-go {n′} {m′} (rules-step {c = c} b q e l z) = on (going {n = n′} {m = m′} (rw z (more-rules {c = c} (of-going x) q e l b)))
 
-    pub turn-done : {l : ℕ} → Stepped (blockAt f i) i n m (Step.Done l) → Turned f i (Turn.On (State.Ended n m l))
+    pub turn-done : {l : ℕ} → BlockStep (blockAt f i) i n m (Step.Done l) → Turned f i (Turn.On (State.Ended n m l))
     turn-done (end-step y) = on (ended (end (of-going x) y))
 
 -- ---- all blocks

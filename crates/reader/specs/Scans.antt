@@ -20,11 +20,11 @@ pub record Stuck (b : List ℕ) (i n m : ℕ) : Type 0 where
   pub ends : (limit : ℕ) → ¬ EndBlock edition1 i limit b
 
 -- one step of the machine on block b
-pub data Stepped (b : List ℕ) (i n m : ℕ) : Step → Type 0 where
-  words-step : {n′ m′ c : ℕ} → WordsBlock edition1 i c b → m ≡ 0 → n % 21 ≡ 0 → n′ ≡ n + c → n′ ≤ most-words → m′ ≡ 0 → Stepped b i n m (Step.Go n′ m′)
-  rules-step : {n′ m′ c : ℕ} → RulesBlock edition1 i c b → m % 63 ≡ 0 → m′ ≡ m + c → m′ ≤ most-rules → n′ ≡ n → Stepped b i n m (Step.Go n′ m′)
-  end-step : {limit : ℕ} → EndBlock edition1 i limit b → Stepped b i n m (Step.Done limit)
-  fault-step : Stuck b i n m → Stepped b i n m Step.Fault
+pub data BlockStep (b : List ℕ) (i n m : ℕ) : Step → Type 0 where
+  words-step : {n′ m′ c : ℕ} → WordsBlock edition1 i c b → m ≡ 0 → n % 21 ≡ 0 → n′ ≡ n + c → n′ ≤ most-words → m′ ≡ 0 → BlockStep b i n m (Step.Go n′ m′)
+  rules-step : {n′ m′ c : ℕ} → RulesBlock edition1 i c b → m % 63 ≡ 0 → m′ ≡ m + c → m′ ≤ most-rules → n′ ≡ n → BlockStep b i n m (Step.Go n′ m′)
+  end-step : {limit : ℕ} → EndBlock edition1 i limit b → BlockStep b i n m (Step.Done limit)
+  fault-step : Stuck b i n m → BlockStep b i n m Step.Fault
 
 -- the machine's state after the first i blocks of a file
 pub data Stands (f : List ℕ) (i : ℕ) : State → Type 0 where

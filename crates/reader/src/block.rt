@@ -3,7 +3,7 @@ use crate::Body;
 ghost use mathlib.Core.Path.{_≡_};
 ghost use Prim.Native.Nat.{_+_, _*_, _<_, _≤_};
 ghost use lib.ListN.{length};
-ghost use Rattle.blocks.specs.Bytes.{number};
+ghost use Rattle.blocks.specs.Bytes.{fromLe};
 ghost use Rattle.lists.specs.Lists.{part};
 ghost use Rattle.blocks.specs.Block.{Sound, Clear, Records};
 ghost use Rattle.lists.specs.Tests.{Decides};
@@ -18,7 +18,7 @@ fn wide(x: u8) -> u64
 // The number that k bytes from a place on make, the lowest first.
 pub fn load(b: &[u8], at: usize, k: usize) -> u64
     requires { ⌜ (k ≤ 8) × (at + k ≤ length (now b)) ⌝ }
-    ensures { λ r. ⌜ r ≡ number (part (now (b .entry)) at k) ⌝ }
+    ensures { λ r. ⌜ r ≡ fromLe (part (now (b .entry)) at k) ⌝ }
 {
     let mut x: u64 = 0;
     let mut i = k;
@@ -85,8 +85,8 @@ pub fn body_of(b: &[u8], i: usize) -> Body
     if b[1] != 1 {
         return Body::Bad;
     }
-    let number = blocks::number_at(b, 1);
-    if number as usize != i {
+    let fromLe = blocks::number_at(b, 1);
+    if fromLe as usize != i {
         return Body::Bad;
     }
     let c = blocks::number_at(b, 2) as usize;

@@ -13,12 +13,12 @@ ghost use mathlib.Core.Path.{_≡_};
 ghost use Prim.Native.Nat.{_+_, _*_, _≤_, _-_};
 ghost use lib.ListN.{length};
 ghost use Rattle.blocks.specs.Block.{Sound};
-ghost use Rattle.reader.specs.Scans.{Stepped, Stands, Turned, Scanned};
+ghost use Rattle.reader.specs.Scans.{BlockStep, Stands, Turned, Scanned};
 
 // The machine's step: a words block may come where no rules were yet, and after full blocks of its kind only.
 fn step_on(b: &[u8], i: usize, words: usize, rules: usize) -> Step
     requires { ⌜ (length (now b) ≡ 512) × (words ≤ 32) × (rules ≤ 252) × Sound (now b) ⌝ }
-    ensures { λ r. ⌜ Stepped (now (b .entry)) i words rules r ⌝ }
+    ensures { λ r. ⌜ BlockStep (now (b .entry)) i words rules r ⌝ }
 {
     let body = body_of(b, i);
     match body {

@@ -14,7 +14,7 @@ use Rattle.blocks.proofs.RoundTrip.{read-kept}
 use Rattle.report.specs.declared.Advised.the-variants as answer
 use Rattle.report.specs.Text.{textOf, refused}
 use Rattle.report.specs.Printed.{most, Printed}
-use Rattle.report.specs.Promise.{Lent, Asked, Told, told, noWords, noRules, Reports, unread, answered, Advises, size, lines}
+use Rattle.report.specs.Promise.{Lent, ToReport, Told, told, noWords, noRules, Reports, unread, answered, Advises, size, lines}
 
 pub short-bytes : (f l k : List ℕ) → length l < most → Advises f l k (answer.Refused 1 0) l k
 short-bytes f l k h = size (λ x. omega (arith, x .bytes))
@@ -39,7 +39,7 @@ module _ {f y z : List ℕ} where
     pub few : {x : Problem} → r ≡ Reading.Ok x → (x .words ≤ 32) × (x .rules ≤ 252)
     few q = few-at (rw q at reads)
 
-    pub read-asked : {x : Problem} {l k : List ℕ} → r ≡ Reading.Ok x → Lent l k → Asked (x .limit) (take (3 * x .words) y) (take (6 * x .rules) z) l k
+    pub read-asked : {x : Problem} {l k : List ℕ} → r ≡ Reading.Ok x → Lent l k → ToReport (x .limit) (take (3 * x .words) y) (take (6 * x .rules) z) l k
     read-asked q lent = record { lent = lent; fine = read-kept (rw q at reads) .fine }
 
     pub told-lines : {x : Problem} {e : ℕ} {l k l′ k′ : List ℕ} → r ≡ Reading.Ok x → Lent l k

@@ -9,10 +9,10 @@ use Rattle.checker.proofs.Firsts.{refused-not-ok}
 use Rattle.checker.proofs.Right.{ok-fine}
 use Rattle.words.specs.Table.{Table}
 use Rattle.rules.specs.Tight.{Rule}
-use Rattle.search.specs.Search.{none}
-use Rattle.search.proofs.Outcomes.{found-not-none}
-use Rattle.causes.specs.Cause.{EXISTS, Trims, spared, needed, exists, trimmed}
-use Rattle.causes.proofs.One.{same}
+use Rattle.search_theory.specs.Search.{none}
+use Rattle.search_theory.proofs.Outcomes.{found-not-none}
+use Rattle.cause_theory.specs.Cause.{EXISTS, Trims, spared, needed, exists, trimmed}
+use Rattle.cause_theory.proofs.One.{same}
 use Rattle.solve.specs.Promise.{Comes}
 use Rattle.cause.specs.declared.Caused.{Caused}
 use Rattle.cause.specs.declared.Caused.the-variants as caused
@@ -20,10 +20,10 @@ use Rattle.cause.specs.Promise.{CauseGiven, Named, Entered, Causing, NoneFirst}
 use Rattle.cause.proofs.Calling.{nothing-refused}
 use Rattle.report.specs.Text.{unsat, named, unnamed}
 use Rattle.report.specs.Printed.{Printed}
-use Rattle.report.specs.Promise.{none-named, none-unnamed, Asked, Told, told}
+use Rattle.report.specs.Promise.{none-named, none-unnamed, ToReport, Told, told}
 
 -- a list of 252 entries does for a cause
-pub trials-asked : {limit g : ℕ} {ws bs l k : List ℕ} (s : List ℕ) → length s ≡ 252 → Asked limit ws bs l k → Comes limit ws bs (none g)
+pub trials-asked : {limit g : ℕ} {ws bs l k : List ℕ} (s : List ℕ) → length s ≡ 252 → ToReport limit ws bs l k → Comes limit ws bs (none g)
     → NoneFirst limit ws bs s k g
 trials-asked {limit} {g} {ws} {bs} {l} {k} s size asked comes =
     let f = ok-fine limit ws bs (asked .fine) in

@@ -5,8 +5,8 @@ use Prim.Native.Nat.{ℕ}
 use native.Mathlib.Omega.{arith}
 use Rattle.problem.specs.Lent.{widthsOf, tableOf, rulesOf}
 use Rattle.tighten.proofs.Once.{cleared-once}
-use Rattle.search.proofs.Outcomes.{found-not-none, found-not-gave-up, none-not-gave-up}
-use Rattle.causes.proofs.One.{one-cause}
+use Rattle.search_theory.proofs.Outcomes.{found-not-none, found-not-gave-up, none-not-gave-up}
+use Rattle.cause_theory.proofs.One.{one-cause}
 use Rattle.solve.proofs.Once.{comes-once}
 use Rattle.blocks.specs.declared.Reading.{Reading}
 use Rattle.blocks.specs.Promise.{Room, Reads}
@@ -15,10 +15,10 @@ use Rattle.blocks.proofs.ReadBack.{one-problem}
 use Rattle.blocks.proofs.Promise.{read-once}
 use Rattle.report.specs.declared.Advised.{Advised}
 use Rattle.report.specs.Text.{Report}
-use Rattle.report.specs.Promise.{Answers, found-first, none-named, none-unnamed, gave-up-at, noWords, noRules, Reports, unread, answered, Advises, size, lines}
+use Rattle.report.specs.Promise.{ReportOf, found-first, none-named, none-unnamed, gave-up-at, noWords, noRules, Reports, unread, answered, Advises, size, lines}
 
 module _ (limit : ℕ) (ws bs : List ℕ) where
-  answers-once : {x y : Report} → Answers limit ws bs x → Answers limit ws bs y → x ≡ y
+  answers-once : {x y : Report} → ReportOf limit ws bs x → ReportOf limit ws bs y → x ≡ y
   answers-once (found-first s) (found-first s′) = let e = comes-once limit ws bs s s′ in cc
   answers-once (found-first s) (none-named s′ r) = absurd (found-not-none (comes-once limit ws bs s s′))
   answers-once (found-first s) (none-unnamed s′ r) = absurd (found-not-none (comes-once limit ws bs s s′))

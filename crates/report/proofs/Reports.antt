@@ -9,7 +9,7 @@ use Rattle.decimal.specs.Text.{decimal, spaced}
 use Rattle.decimal.specs.Putting.{Appended}
 use Rattle.decimal.proofs.Appends.{appended-both}
 use Rattle.lists.proofs.Pieces.{flat-same}
-use Rattle.report.specs.Text.{items, line, SAT, UNSAT, UNKNOWN, CAUSE, REFUSED, wordLine, causeLine, wordLines, textOf, ToldCause, named, unnamed, sat, unsat, unknown, refused}
+use Rattle.report.specs.Text.{items, line, SAT, UNSAT, UNKNOWN, CAUSE-WORD, REFUSED, wordLine, causeLine, wordLines, textOf, ToldCause, named, unnamed, sat, unsat, unknown, refused}
 use Rattle.report.specs.Printed.{Printed}
 use Rattle.report.proofs.Puts.{spaced-items, pieces-end, printed}
 
@@ -36,11 +36,11 @@ items-more : (x : List ℕ) (xs : List (List ℕ)) → items (x ∷ []) ++ (item
 unfolding items
 items-more x xs = ap (λ t. 32 ∷ t) (rw (append-nil x) (sym (append-assoc x (items xs) (10 ∷ []))))
 
-cause-line : (sum : ℕ) (rules : List ℕ) → CAUSE ++ (spaced (sum ∷ []) ++ (spaced rules ++ (10 ∷ []))) ≡ causeLine (named sum rules)
+cause-line : (sum : ℕ) (rules : List ℕ) → CAUSE-WORD ++ (spaced (sum ∷ []) ++ (spaced rules ++ (10 ∷ []))) ≡ causeLine (named sum rules)
 unfolding causeLine line
-cause-line sum rules = rw (spaced-items (sum ∷ []), spaced-items rules) (ap (λ t. CAUSE ++ t) (items-more (decimal sum) (map decimal rules)))
+cause-line sum rules = rw (spaced-items (sum ∷ []), spaced-items rules) (ap (λ t. CAUSE-WORD ++ t) (items-more (decimal sum) (map decimal rules)))
 
-pub cause-put : {l p q s m : List ℕ} {at a b e r : ℕ} (sum : ℕ) (rules : List ℕ) → Appended l at CAUSE p a → Appended p a (spaced (sum ∷ [])) q b
+pub cause-put : {l p q s m : List ℕ} {at a b e r : ℕ} (sum : ℕ) (rules : List ℕ) → Appended l at CAUSE-WORD p a → Appended p a (spaced (sum ∷ [])) q b
     → Appended q b (spaced rules) s e → Appended s e (10 ∷ []) m r → Appended l at (causeLine (named sum rules)) m r
 cause-put sum rules f g h k = rw (cause-line sum rules) at (appended-both f (appended-both g (appended-both h k)))
 
@@ -57,7 +57,7 @@ unfolding textOf
 unsat-put count cause f g = printed (unsat count cause) (appended-both f g)
 
 pub unnamed-put : {l p m : List ℕ} {e r : ℕ} (count sum : ℕ) → Appended l 0 (line UNSAT (map decimal (count ∷ []))) p e
-    → Appended p e (line (CAUSE ++ (32 ∷ UNKNOWN)) (map decimal (sum ∷ []))) m r → Printed (unsat count (unnamed sum)) l m r
+    → Appended p e (line (CAUSE-WORD ++ (32 ∷ UNKNOWN)) (map decimal (sum ∷ []))) m r → Printed (unsat count (unnamed sum)) l m r
 unfolding causeLine line items
 unnamed-put count sum f g = unsat-put count (unnamed sum) f g
 

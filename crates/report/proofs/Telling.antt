@@ -10,7 +10,7 @@ use Rattle.problem.specs.Lent.{wordCount, widthAt, widthsOf}
 use Rattle.checker.proofs.Right.{ok-fine}
 use Rattle.lists.proofs.Series.{length-series, series-at}
 use Rattle.tighten.specs.Memory.{Cleared}
-use Rattle.search.specs.Search.{none}
+use Rattle.search_theory.specs.Search.{none}
 use Rattle.solve.specs.declared.Solved.{Solved}
 use Rattle.solve.specs.declared.Solved.the-variants as solved
 use Rattle.solve.specs.Promise.{Comes, Solving}
@@ -20,7 +20,7 @@ use Rattle.decimal.specs.Text.{decimal}
 use Rattle.lists.proofs.Pieces.{flat-same}
 use Rattle.report.specs.Text.{line, SAT, wordLine, wordLines, Report, sat, unknown, textOf}
 use Rattle.report.specs.Printed.{Printed, Valued}
-use Rattle.report.specs.Promise.{found-first, gave-up-at, Asked, Told, told}
+use Rattle.report.specs.Promise.{found-first, gave-up-at, ToReport, Told, told}
 
 printed-same : {x y : Report} {l m : List ℕ} {e : ℕ} → textOf x ≡ textOf y → Printed x l m e → Printed y l m e
 printed-same q p = record { ends = rw q at (p .ends); text = rw q at (p .text) }
@@ -33,7 +33,7 @@ sat-same g widths u v q =
     (flat-same (length widths) (λ i. wordLine i (at widths i) (at u i)) (λ i. wordLine i (at widths i) (at v i)) (λ j h. ap (wordLine j (at widths j)) (q j h)))
 
 -- the words of a problem without refusals can be printed
-pub valued : {limit : ℕ} {ws bs l k : List ℕ} (m : List ℕ) → length m ≡ 32 → Asked limit ws bs l k → Valued ws m
+pub valued : {limit : ℕ} {ws bs l k : List ℕ} (m : List ℕ) → length m ≡ 32 → ToReport limit ws bs l k → Valued ws m
 valued {limit} {ws} {bs} m size asked =
     let f = ok-fine limit ws bs (asked .fine) in record {
       few = f .sized .words;
@@ -42,7 +42,7 @@ valued {limit} {ws} {bs} m size asked =
     }
 
 -- the memory cleared, a report is asked for and told as before
-pub asked-after : {limit : ℕ} {ws bs l k n : List ℕ} → Asked limit ws bs l k → Cleared k n → Asked limit ws bs l n
+pub asked-after : {limit : ℕ} {ws bs l k n : List ℕ} → ToReport limit ws bs l k → Cleared k n → ToReport limit ws bs l n
 asked-after a c = record { lent = record { bytes = a .lent .bytes; work = omega (arith, a .lent .work, c .size) }; fine = a .fine }
 
 pub told-after : {limit e : ℕ} {ws bs l k n l′ n′ : List ℕ} → Cleared k n → Told limit ws bs l n e l′ n′ → Told limit ws bs l k e l′ n′
@@ -77,7 +77,7 @@ module _ {limit : ℕ} {ws bs m k : List ℕ} where
     pub gave-up-told : {g : ℕ} {l l′ : List ℕ} {e : ℕ} → r ≡ solved.GaveUp g → Printed (unknown g) l l′ e → Told limit ws bs l k e l′ n
     gave-up-told q p = gave-up-after (rw q at s) p
 
-    pub never-refused : {a b : ℕ} {l : List ℕ} → r ≡ solved.Refused a b → Asked limit ws bs l k → length m ≡ 32 → ⊥
+    pub never-refused : {a b : ℕ} {l : List ℕ} → r ≡ solved.Refused a b → ToReport limit ws bs l k → length m ≡ 32 → ⊥
     never-refused q asked size =
         let work = asked .lent .work in
         not-refused (rw q at s) (nothing-refused limit ws bs m k (omega arith) (valued m size asked .there) (asked .fine))

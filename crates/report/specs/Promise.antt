@@ -7,8 +7,8 @@ use Rattle.checker.specs.declared.Checked.{Checked}
 use Rattle.problem.specs.Lent.{widthsOf}
 use Rattle.checker.specs.Demands.{SIZE, number}
 use Rattle.tighten.specs.Memory.{Cleared}
-use Rattle.search.specs.Search.{found, none, gave-up}
-use Rattle.causes.specs.Cause.{CAUSE, GAVE-UP}
+use Rattle.search_theory.specs.Search.{found, none, gave-up}
+use Rattle.cause_theory.specs.Cause.{CAUSE, GAVE-UP}
 use Rattle.solve.specs.Promise.{Comes}
 use Rattle.cause.specs.Promise.{causeWork, Named}
 use Rattle.blocks.specs.declared.Reading.{Reading}
@@ -27,22 +27,22 @@ pub record Lent (l k : List ℕ) : Type 0 where
   pub work : causeWork ≤ length k
 
 -- what a problem's own search and, after NONE, the procedure for its cause come to
-pub data Answers (limit : ℕ) (ws bs : List ℕ) : Report → Type 0 where
-  found-first : {v : List ℕ} {g : ℕ} → Comes limit ws bs (found v g) → Answers limit ws bs (sat g (widthsOf ws) v)
+pub data ReportOf (limit : ℕ) (ws bs : List ℕ) : Report → Type 0 where
+  found-first : {v : List ℕ} {g : ℕ} → Comes limit ws bs (found v g) → ReportOf limit ws bs (sat g (widthsOf ws) v)
   none-named : {rules : List ℕ} {g sum : ℕ} → Comes limit ws bs (none g) → Named limit ws bs (CAUSE rules sum)
-      → Answers limit ws bs (unsat g (named sum rules))
+      → ReportOf limit ws bs (unsat g (named sum rules))
   none-unnamed : {g sum : ℕ} → Comes limit ws bs (none g) → Named limit ws bs (GAVE-UP sum)
-      → Answers limit ws bs (unsat g (unnamed sum))
-  gave-up-at : Comes limit ws bs gave-up → Answers limit ws bs (unknown limit)
+      → ReportOf limit ws bs (unsat g (unnamed sum))
+  gave-up-at : Comes limit ws bs gave-up → ReportOf limit ws bs (unknown limit)
 
 -- a problem without refusals, with enough lent
-pub record Asked (limit : ℕ) (ws bs l k : List ℕ) : Type 0 where
+pub record ToReport (limit : ℕ) (ws bs l k : List ℕ) : Type 0 where
   pub lent : Lent l k
   pub fine : edition1 .judge limit ws bs ≡ Checked.Ok
 
 -- a problem's report stands in bytes m, which were l, and has e of them; work memory, which was k, is n, all 0
 pub data Told (limit : ℕ) (ws bs l k : List ℕ) (e : ℕ) (m n : List ℕ) : Type 0 where
-  told : {x : Report} → Answers limit ws bs x → Printed x l m e → Cleared k n → Told limit ws bs l k e m n
+  told : {x : Report} → ReportOf limit ws bs x → Printed x l m e → Cleared k n → Told limit ws bs l k e m n
 
 -- memory for 32 words and for 252 rules
 abbrev pub noWords : List ℕ
@@ -54,7 +54,7 @@ noRules = zeros 1512
 -- the report on a file: the number and the place with which reading it is refused; or what its problem is answered
 pub data Reports (f : List ℕ) : Report → Type 0 where
   unread : {n i : ℕ} → Reads edition1 f noWords noRules noWords noRules (Reading.Refused n i) → Reports f (refused n i)
-  answered : {limit : ℕ} {ws bs : List ℕ} {x : Report} → IsFile edition1 limit ws bs f → edition1 .judge limit ws bs ≡ Checked.Ok → Answers limit ws bs x
+  answered : {limit : ℕ} {ws bs : List ℕ} {x : Report} → IsFile edition1 limit ws bs f → edition1 .judge limit ws bs ≡ Checked.Ok → ReportOf limit ws bs x
       → Reports f x
 
 -- bytes l and work memory k were lent with the file f; the answer is r, and m and n stand in bytes and memory afterwards

@@ -26,8 +26,8 @@ UNSAT = 117 ∷ 110 ∷ SAT
 abbrev pub UNKNOWN : List ℕ
 UNKNOWN = 117 ∷ 110 ∷ 107 ∷ 110 ∷ 111 ∷ 119 ∷ 110 ∷ []
 
-abbrev pub CAUSE : List ℕ
-CAUSE = 99 ∷ 97 ∷ 117 ∷ 115 ∷ 101 ∷ []
+abbrev pub CAUSE-WORD : List ℕ
+CAUSE-WORD = 99 ∷ 97 ∷ 117 ∷ 115 ∷ 101 ∷ []
 
 abbrev pub REFUSED : List ℕ
 REFUSED = 114 ∷ 101 ∷ 102 ∷ 117 ∷ 115 ∷ 101 ∷ 100 ∷ []
@@ -54,8 +54,8 @@ pub data Report : Type 0 where
   refused : ℕ → ℕ → Report
 
 unfoldable pub causeLine : ToldCause → List ℕ
-causeLine (named sum rules) = line CAUSE (decimal sum ∷ map decimal rules)
-causeLine (unnamed sum) = line CAUSE (UNKNOWN ∷ decimal sum ∷ [])
+causeLine (named sum rules) = line CAUSE-WORD (decimal sum ∷ map decimal rules)
+causeLine (unnamed sum) = line CAUSE-WORD (UNKNOWN ∷ decimal sum ∷ [])
 
 unfoldable pub wordLines : List ℕ → List ℕ → List ℕ
 wordLines widths values = flat (length widths) (λ i. wordLine i (at widths i) (at values i))

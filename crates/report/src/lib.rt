@@ -11,9 +11,9 @@ use printing::put_unknown;
 use printing::put_unnamed;
 use printing::put_unsat;
 use solve::Solved;
-ghost use Rattle.search.specs.Search.{none};
+ghost use Rattle.search_theory.specs.Search.{none};
 ghost use Rattle.solve.specs.Promise.{Comes};
-ghost use Rattle.report.specs.Promise.{Asked, Told, Advises};
+ghost use Rattle.report.specs.Promise.{ToReport, Told, Advises};
 
 // The answer: the lines stand in front of the lent bytes, so many; or the number of a refusal of what was lent, and its place.
 pub enum Advised {
@@ -33,7 +33,7 @@ fn tell_none(
     out: &mut [u8],
     work: &mut [u64],
 ) -> usize
-    requires { ⌜ Asked limit (now words) (now rules) (now out) (now work) × Comes limit (now words) (now rules) (none count) ⌝ }
+    requires { ⌜ ToReport limit (now words) (now rules) (now out) (now work) × Comes limit (now words) (now rules) (none count) ⌝ }
     ensures { λ r. ⌜ Told limit (now (words .entry)) (now (rules .entry)) (now (out .entry)) (now (work .entry)) r (now (out .exit)) (now (work .exit)) ⌝ }
 {
     let mut list = [0; 252];
@@ -47,7 +47,7 @@ fn tell_none(
 
 // The report on a problem: solved, and the cause looked for where there are no settings. A problem without refusals is not refused here.
 fn tell(words: &[u64], rules: &[u8], limit: u32, out: &mut [u8], work: &mut [u64]) -> usize
-    requires { ⌜ Asked limit (now words) (now rules) (now out) (now work) ⌝ }
+    requires { ⌜ ToReport limit (now words) (now rules) (now out) (now work) ⌝ }
     ensures { λ r. ⌜ Told limit (now (words .entry)) (now (rules .entry)) (now (out .entry)) (now (work .entry)) r (now (out .exit)) (now (work .exit)) ⌝ }
 {
     let mut model = [0; 32];

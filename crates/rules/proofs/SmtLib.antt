@@ -13,7 +13,7 @@ use Rattle.words.proofs.Order.{bit-lt}
 use Rattle.rules.specs.Kinds.{Place, R, A, B, S, Op, COPY, NOT, AND, OR, XOR, ADD, ITE, SLICE, JOIN, SHL, SHR, Rel, ULE, ULT, NE, op}
 use Rattle.rules.specs.Rows.{uses, Fitting}
 use Rattle.rules.specs.Meaning.{result, Compares}
-use Rattle.rules.specs.SmtLib.{Vector, Sized, Equal, if_then_else_, bv2nat, concat, bvnot, bvand, denoted, Denoted}
+use Rattle.rules.specs.SmtLib.{Vector, OfSize, Equal, if_then_else_, bv2nat, concat, bvnot, bvand, denoted, Denoted}
 use Rattle.rules.proofs.SmtLibNumbers.{bv2nat-bits, bv2nat-equal, bv2nat-lt, nat2bv-sized}
 use Rattle.rules.proofs.SmtLibKinds.{copy-smtlib, not-smtlib, and-smtlib, or-smtlib, xor-smtlib, add-smtlib, ite-smtlib, slice-smtlib, join-smtlib, shl-smtlib, shr-smtlib}
 
@@ -36,8 +36,8 @@ if-lt true x y p q = p
 if-lt false x y p q = q
 
 -- where widths fit, what SMT-LIB denotes for bit-vectors of the operands' sizes is a bit-vector of the size of r
-pub denoted-sized : (o : Op) (w : Place → ℕ) (k : ℕ) (a b s : Vector) → Fitting (op o) w k → Sized (w A) a → (T (uses (op o) B) → Sized (w B) b)
-    → (T (uses (op o) S) → Sized (w S) s) → Sized (w R) (denoted o w k a b s)
+pub denoted-sized : (o : Op) (w : Place → ℕ) (k : ℕ) (a b s : Vector) → Fitting (op o) w k → OfSize (w A) a → (T (uses (op o) B) → OfSize (w B) b)
+    → (T (uses (op o) S) → OfSize (w S) s) → OfSize (w R) (denoted o w k a b s)
 denoted-sized COPY w k a b s e p q r x l = p x (rw e at l)
 denoted-sized NOT w k a b s e p q r x l = if-lt (eqb (a x) 0) 1 0 (omega arith) (omega arith)
 denoted-sized AND w k a b s e p q r x l = if-lt (eqb (a x) 0) 0 (b x) (omega arith) (q tt x (rw (e .1) at l))

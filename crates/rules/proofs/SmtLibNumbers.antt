@@ -9,7 +9,7 @@ use lib.Arith.{digits-lt, digits-div, digits-mod}
 use lib.Pow.{mod-pow-add}
 use Rattle.words.specs.Bits.{bit}
 use Rattle.words.proofs.Order.{bit-lt}
-use Rattle.rules.specs.SmtLib.{Vector, Sized, Equal, bv2nat, nat2bv}
+use Rattle.rules.specs.SmtLib.{Vector, OfSize, Equal, bv2nat, nat2bv}
 
 -- the bits of n below m make what is left of n by 2^m
 pub bv2nat-mod : (m n : ℕ) → bv2nat m (bit n) ≡ n % 2 ^ m
@@ -27,10 +27,10 @@ bv2nat-nat2bv m n = bv2nat-mod m (n % 2 ^ m) ∙ mod-mod n (2 ^ m)
 pub nat2bv-number : (m n : ℕ) → n < 2 ^ m → bv2nat m (nat2bv m n) ≡ n
 nat2bv-number m n l = bv2nat-nat2bv m n ∙ mod-eq-of-lt l
 
-pub nat2bv-sized : (m n : ℕ) → Sized m (nat2bv m n)
+pub nat2bv-sized : (m n : ℕ) → OfSize m (nat2bv m n)
 nat2bv-sized m n x l = bit-lt (n % 2 ^ m) x
 
-pub bv2nat-lt : (m : ℕ) (b : Vector) → Sized m b → bv2nat m b < 2 ^ m
+pub bv2nat-lt : (m : ℕ) (b : Vector) → OfSize m b → bv2nat m b < 2 ^ m
 unfolding bv2nat
 bv2nat-lt zero b h = omega arith
 bv2nat-lt (suc m) b h = omega (arith, pow-suc 2 m, digits-lt {m = 2} (h m (omega arith)) (bv2nat-lt m b (λ x l. h x (omega arith))))
@@ -42,15 +42,15 @@ bv2nat-equal zero s t e = refl
 bv2nat-equal (suc m) s t e = cc (e m (omega arith), bv2nat-equal m s t (λ x l. e x (omega arith)))
 
 -- and bit-vectors of size m that are one number agree below m
-pub nat2bv-unique : (m : ℕ) (s t : Vector) → Sized m s → Sized m t → bv2nat m s ≡ bv2nat m t → Equal m s t
+pub nat2bv-unique : (m : ℕ) (s t : Vector) → OfSize m s → OfSize m t → bv2nat m s ≡ bv2nat m t → Equal m s t
 unfolding bv2nat
 nat2bv-unique zero s t p q e x l = absurd (omega arith)
 nat2bv-unique (suc m) s t p q e x l = go (ℕ-discrete x m) (nat2bv-unique m s t below-s below-t same)
   where
-    below-s : Sized m s
+    below-s : OfSize m s
     below-s y k = p y (omega arith)
 
-    below-t : Sized m t
+    below-t : OfSize m t
     below-t y k = q y (omega arith)
 
     top : s m ≡ t m

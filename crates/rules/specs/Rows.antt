@@ -5,14 +5,14 @@ use Prim.Native.Nat.{ℕ, _+_, _≤_, _<_}
 use Rattle.rules.specs.Kinds.{Place, R, A, B, S, Op, COPY, NOT, AND, OR, XOR, ADD, ITE, SLICE, JOIN, SHL, SHR, Kind, op, rel}
 
 -- the operands that a computing kind uses beside r
-pub data Row : Type 0 where
-  a-only a-b a-b-s : Row
+pub data Operands : Type 0 where
+  a-only a-b a-b-s : Operands
 
 -- how widths must fit
 pub data Class : Type 0 where
   equal-r-a equal-r-a-b chosen part joined shifted equal-a-b : Class
 
-abbrev pub row : Op → Row
+abbrev pub row : Op → Operands
 row COPY = a-only
 row NOT = a-only
 row AND = a-b
@@ -39,7 +39,7 @@ class (op SHL) = shifted
 class (op SHR) = shifted
 class (rel x) = equal-a-b
 
-abbrev pub operand : Row → Place → Bool
+abbrev pub operand : Operands → Place → Bool
 operand x R = false
 operand x A = true
 operand a-only B = false

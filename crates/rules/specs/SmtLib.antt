@@ -13,8 +13,8 @@ abbrev pub Vector : Type 0
 Vector = ℕ → ℕ
 
 -- b is a bit-vector of size m
-abbrev pub Sized : ℕ → Vector → Type 0
-Sized m b = (x : ℕ) → x < m → b x < 2
+abbrev pub OfSize : ℕ → Vector → Type 0
+OfSize m b = (x : ℕ) → x < m → b x < 2
 
 infix 5 if_then_else_
 abbrev pub if_then_else_ : Bool → ℕ → ℕ → ℕ

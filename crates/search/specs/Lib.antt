@@ -1,4 +1,3 @@
-pub mod Settings
-pub mod Search
-pub mod Guesses
-pub mod Ceiling
+pub mod Guessing
+pub mod Searching
+pub mod Starting

@@ -17,7 +17,7 @@ use Rattle.tighten.specs.declared.Answer.{Answer}
 use Rattle.tighten.specs.Promise as Tighten
 use Rattle.solve.specs.declared.Solved.{Solved}
 use Rattle.solve.specs.Promise as Solve
-use Rattle.reasons.specs.Says as Says
+use Rattle.reason_theory.specs.Says as Says
 use Rattle.explain.specs.declared.Explained.{Explained}
 use Rattle.explain.specs.Promise as Explain
 use Rattle.cause.specs.declared.Caused.{Caused}

@@ -20,16 +20,16 @@ use Rattle.checker.proofs.Rooms.{has-room, taken}
 use Rattle.lists.proofs.Series.{length-series}
 use Rattle.tighten.specs.declared.Answer.{Answer}
 use Rattle.tighten.specs.Promise as Tighten
-use Rattle.search.proofs.Limit.{answer-found, answer-none, count-limit}
+use Rattle.search_theory.proofs.Limit.{answer-found, answer-none, count-limit}
 use Rattle.solve.specs.declared.Solved.{Solved}
 use Rattle.solve.specs.Promise as Solve
-use Rattle.reasons.specs.Says as Says
-use Rattle.reasons.specs.Reason.{Explains, with-reason}
-use Rattle.reasons.proofs.Listed.{reason-length}
+use Rattle.reason_theory.specs.Says as Says
+use Rattle.reason_theory.specs.Reason.{Explains, with-reason}
+use Rattle.reason_theory.proofs.Listed.{reason-length}
 use Rattle.explain.specs.declared.Explained.{Explained}
 use Rattle.explain.specs.Promise as Explain
-use Rattle.causes.specs.Cause as Cause
-use Rattle.causes.proofs.Sum.{sum, sum-limit, named-rules}
+use Rattle.cause_theory.specs.Cause as Cause
+use Rattle.cause_theory.proofs.Sum.{sum, sum-limit, named-rules}
 use Rattle.cause.specs.declared.Caused.{Caused}
 use Rattle.cause.specs.Promise as Causing
 use Rattle.blocks.specs.declared.Reading.{Reading}

@@ -14,10 +14,10 @@ use Rattle.checker.proofs.Rooms.{first-short, second-short, roomy, has-room}
 use Rattle.tighten.specs.Memory.{tableIn, Numbered, Cleared}
 use Rattle.tighten.proofs.Calling.{all-chosen}
 use Rattle.tighten.proofs.Memory.{low-at}
-use Rattle.searcher.specs.declared.Answer.{Answer}
-use Rattle.searcher.specs.declared.Answer.the-variants.{Found, Nothing, GaveUp}
-use Rattle.searcher.specs.Searching.{outcomeOf}
-use Rattle.searcher.specs.Starting.{Asked, Sought}
+use Rattle.search.specs.declared.Answer.{Answer}
+use Rattle.search.specs.declared.Answer.the-variants.{Found, Nothing, GaveUp}
+use Rattle.search.specs.Searching.{outcomeOf}
+use Rattle.search.specs.Starting.{ToSearch, Sought}
 use Rattle.solve.specs.declared.Solved.the-variants as answer
 use Rattle.solve.specs.Promise.{solveWork, solveRefusal, Stored, Comes, Solving, refused, found-first, found-none, gave-up-at, SolveGiven}
 
@@ -59,7 +59,7 @@ module _ {limit : ℕ} {ws bs m l : List ℕ} (given : SolveGiven limit ws bs m 
 
   -- the first c rules are listed
   module _ {c : ℕ} {k : List ℕ} (y : Numbered c l k) where
-    pub asked : c ≤ ruleCount bs → Asked ws bs k c
+    pub asked : c ≤ ruleCount bs → ToSearch ws bs k c
     asked few = record {
       sized = fine .sized;
       problem = fine .problem;

@@ -15,14 +15,14 @@ use Rattle.checker.specs.declared.Checked.the-variants.{Refused}
 use Rattle.problem.specs.Lent.{wordCount, widthsOf, tableOf, rulesOf, loAt}
 use Rattle.lists.proofs.Series.{length-series}
 use Rattle.tighten.specs.Memory.{Cleared}
-use Rattle.search.specs.Settings.{First, Without}
-use Rattle.search.specs.Search.{Outcome, found, none, gave-up, count}
-use Rattle.search.specs.Guesses.{Answers, answers-found, answers-none, Guesses}
-use Rattle.search.specs.Ceiling.{Ceiling}
-use Rattle.search.proofs.Limit.{answer-found, answer-none}
-use Rattle.search.proofs.Outcomes.{found-not-none, none-not-gave-up}
-use Rattle.search.proofs.Problem.{outcome-right, gave-up-just, conflict-no-guess}
-use Rattle.search.proofs.TheCeiling.{count-ceiling, ceiling-reached}
+use Rattle.search_theory.specs.Settings.{First, Without}
+use Rattle.search_theory.specs.Search.{Outcome, found, none, gave-up, count}
+use Rattle.search_theory.specs.Guesses.{Answers, answers-found, answers-none, Guesses}
+use Rattle.search_theory.specs.Ceiling.{Ceiling}
+use Rattle.search_theory.proofs.Limit.{answer-found, answer-none}
+use Rattle.search_theory.proofs.Outcomes.{found-not-none, none-not-gave-up}
+use Rattle.search_theory.proofs.Problem.{outcome-right, gave-up-just, conflict-no-guess}
+use Rattle.search_theory.proofs.TheCeiling.{count-ceiling, ceiling-reached}
 use Rattle.solve.specs.declared.Solved.{Solved}
 use Rattle.solve.specs.declared.Solved.the-variants as answer
 use Rattle.solve.specs.Promise.{solveRefusal, Comes, Solving, refused, found-first, found-none, gave-up-at, Answered, reached-found, reached-none, not-reached, SolveGiven}

@@ -8,9 +8,9 @@ use Rattle.lists.specs.Lists.{at}
 use Rattle.rules.specs.Tight.{Tight}
 use Rattle.problem.specs.Lent.{widthsOf, rulesOf}
 use Rattle.tighten.proofs.Once.{cleared-once}
-use Rattle.search.specs.Search.{Outcome}
-use Rattle.search.proofs.Outcomes.{found-not-none, found-not-gave-up, none-not-gave-up}
-use Rattle.search.proofs.Unique.{one-outcome}
+use Rattle.search_theory.specs.Search.{Outcome}
+use Rattle.search_theory.proofs.Outcomes.{found-not-none, found-not-gave-up, none-not-gave-up}
+use Rattle.search_theory.proofs.Unique.{one-outcome}
 use Rattle.solve.specs.declared.Solved.{Solved}
 use Rattle.solve.specs.declared.Solved.the-variants as answer
 use Rattle.solve.specs.Promise.{Comes, Solving, refused, found-first, found-none, gave-up-at}

@@ -14,10 +14,10 @@ use Rattle.checker.specs.declared.Checked.the-variants.{Refused}
 use Rattle.problem.specs.Lent.{widthsOf, tableOf, rulesOf}
 use Rattle.checker.specs.Tests.{sized, areFields, isFitting}
 use Rattle.checker.specs.Refusal.{refusalWith, refusal, firstOf, wordRefusal, ruleRefusal}
-use Rattle.search.specs.Search.{Outcome, found}
-use Rattle.search.proofs.Outcomes.{found-not-none, found-not-gave-up}
-use Rattle.search.proofs.Unique.{one-outcome}
-use Rattle.search.proofs.Solved.{solved, solved-right}
+use Rattle.search_theory.specs.Search.{Outcome, found}
+use Rattle.search_theory.proofs.Outcomes.{found-not-none, found-not-gave-up}
+use Rattle.search_theory.proofs.Unique.{one-outcome}
+use Rattle.search_theory.proofs.Solved.{solved, solved-right}
 use Rattle.solve.specs.declared.Solved.{Solved}
 use Rattle.solve.specs.declared.Solved.the-variants as answer
 use Rattle.solve.specs.Promise.{solveWork, Comes, Solving, refused, found-first, found-none, gave-up-at, SolveGiven}

@@ -10,8 +10,8 @@ use Rattle.checker.specs.declared.Checked.the-variants.{Ok, Refused}
 use Rattle.problem.specs.Lent.{wordCount, widthsOf, tableOf, rulesOf}
 use Rattle.checker.specs.Refusal.{refusalWith, withRoom}
 use Rattle.tighten.specs.Memory.{Cleared}
-use Rattle.search.specs.Settings.{First, Without}
-use Rattle.search.specs.Search.{Outcome, found, none, gave-up, Search}
+use Rattle.search_theory.specs.Settings.{First, Without}
+use Rattle.search_theory.specs.Search.{Outcome, found, none, gave-up, Search}
 use Rattle.solve.specs.declared.Solved.{Solved}
 use Rattle.solve.specs.declared.Solved.the-variants as answer
 

@@ -41,17 +41,17 @@ fn solve_proper(
 {
     let c = rules.len() / problem::FIELDS;
     tighten::buffer::list_all(work, c);
-    match searcher::search_problem(work, words, rules, c, limit) {
-        searcher::Answer::Found(count) => {
+    match search::search_problem(work, words, rules, c, limit) {
+        search::Answer::Found(count) => {
             store(model, work, words.len() / problem::STRIDE);
             tighten::buffer::clear(work);
             Solved::Found(count)
         }
-        searcher::Answer::Nothing(count) => {
+        search::Answer::Nothing(count) => {
             tighten::buffer::clear(work);
             Solved::Nothing(count)
         }
-        searcher::Answer::GaveUp => {
+        search::Answer::GaveUp => {
             tighten::buffer::clear(work);
             Solved::GaveUp(limit)
         }

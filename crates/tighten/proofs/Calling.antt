@@ -22,7 +22,7 @@ use Rattle.tighten.specs.declared.Answer.{Answer}
 use Rattle.tighten.specs.declared.Answer.the-variants as answer
 use Rattle.tighten.specs.Memory.{tableIn, chosen, Loaded, Numbered, Cleared, putBounds}
 use Rattle.tighten.specs.Ready.{Ready, Listed, Settled}
-use Rattle.tighten.specs.Promise.{tightenWork, tightenRefusal, WithBounds, Ended, ended-tight, ended-conflict, Tightening, refused, tight, conflict}
+use Rattle.tighten.specs.Promise.{tightenWork, tightenRefusal, WithBounds, TightenEnds, ended-tight, ended-conflict, Tightening, refused, tight, conflict}
 use Rattle.tighten.proofs.Memory.{low-at, high-at, lows, highs}
 use Rattle.tighten.proofs.Buffers.{put-length}
 
@@ -126,12 +126,12 @@ module _ {ws bs k l m n p : List ℕ} (given : Taken tightenWork (length k) ws b
   kept : length n ≡ length m → Cleared k p
   kept e = record { size = z .size ∙ e ∙ y .size ∙ x .size; zeros = z .zeros }
 
-  pub call-tight : Settled ws bs (ruleCount bs) m n true → Ended ws bs k true (putBounds (wordCount ws) n ws) p
+  pub call-tight : Settled ws bs (ruleCount bs) m n true → TightenEnds ws bs k true (putBounds (wordCount ws) n ws) p
   call-tight s =
       ended-tight (rw (loaded-table given x y, all-chosen bs y) at (s .answer))
       (put-bounds n ws (given .sized .words) (omega (arith, given .room, x .size, y .size, s .outside .size))) (kept (s .outside .size))
 
-  pub call-conflict : Settled ws bs (ruleCount bs) m n false → Ended ws bs k false ws p
+  pub call-conflict : Settled ws bs (ruleCount bs) m n false → TightenEnds ws bs k false ws p
   call-conflict s = ended-conflict (rw (loaded-table given x y, all-chosen bs y) at (s .answer)) (kept (s .outside .size))
 
 -- ---- the answer
@@ -149,7 +149,7 @@ module _ {ws bs l : List ℕ} where
   unfolding tightenRefusal
   problem-refused h e = refused (roomy tightenWork (length l) 0 0 (refusal ws bs) h (omega arith) ∙ e)
 
-  pub ended-answer : {vs m : List ℕ} {r : Bool} → tightenWork ≤ length l → refusal ws bs ≡ Ok → Ended ws bs l r vs m → Tightening ws bs l (answerOf r) vs m
+  pub ended-answer : {vs m : List ℕ} {r : Bool} → tightenWork ≤ length l → refusal ws bs ≡ Ok → TightenEnds ws bs l r vs m → Tightening ws bs l (answerOf r) vs m
   unfolding tightenRefusal
   ended-answer h e (ended-tight x b c) = tight (roomy tightenWork (length l) 0 0 (refusal ws bs) h (omega arith) ∙ e) x b c
   ended-answer h e (ended-conflict x c) = conflict (roomy tightenWork (length l) 0 0 (refusal ws bs) h (omega arith) ∙ e) x c

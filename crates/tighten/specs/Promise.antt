@@ -30,10 +30,10 @@ pub record WithBounds (ws vs : List ℕ) (u : Table) : Type 0 where
   pub table : tableOf vs ≡ u
 
 -- what it comes to then
-pub data Ended (ws bs l : List ℕ) : Bool → List ℕ → List ℕ → Type 0 where
+pub data TightenEnds (ws bs l : List ℕ) : Bool → List ℕ → List ℕ → Type 0 where
   ended-tight : {u : Table} {vs m : List ℕ} → Widest (Tight (widthsOf ws) (rulesOf bs)) (tableOf ws) u → WithBounds ws vs u → Cleared l m
-      → Ended ws bs l true vs m
-  ended-conflict : {m : List ℕ} → Conflict (Tight (widthsOf ws) (rulesOf bs)) (tableOf ws) → Cleared l m → Ended ws bs l false ws m
+      → TightenEnds ws bs l true vs m
+  ended-conflict : {m : List ℕ} → Conflict (Tight (widthsOf ws) (rulesOf bs)) (tableOf ws) → Cleared l m → TightenEnds ws bs l false ws m
 
 -- words ws, rules bs and work memory l were lent; the answer is x, and vs and m stand in words and memory afterwards
 pub data Tightening (ws bs l : List ℕ) : Answer → List ℕ → List ℕ → Type 0 where

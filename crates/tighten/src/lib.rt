@@ -5,7 +5,7 @@ mod rule;
 
 ghost use lib.ListN.{length};
 ghost use Rattle.checker.specs.Promise.{Taken};
-ghost use Rattle.tighten.specs.Promise.{tightenWork, Ended, Tightening};
+ghost use Rattle.tighten.specs.Promise.{tightenWork, TightenEnds, Tightening};
 ghost use Rattle.tighten.specs.Ready.{Ready, Listed, Swept, Settled};
 
 // What meeting bounds has come to: whether there may still be a fit, and whether a bound changed.
@@ -65,7 +65,7 @@ const WORK: usize = 320;
 // The table in memory tightened for all rules, its bounds put into words where a tight one is left, and the memory cleared.
 fn tighten_proper(words: &mut [u64], rules: &[u8], work: &mut [u64]) -> bool
     requires { ⌜ Taken tightenWork (length (now work)) (now words) (now rules) ⌝ }
-    ensures { λ r. ⌜ Ended (now (words .entry)) (now (rules .entry)) (now (work .entry)) r (now (words .exit)) (now (work .exit)) ⌝ }
+    ensures { λ r. ⌜ TightenEnds (now (words .entry)) (now (rules .entry)) (now (work .entry)) r (now (words .exit)) (now (work .exit)) ⌝ }
 {
     let n = words.len() / problem::STRIDE;
     let c = rules.len() / problem::FIELDS;

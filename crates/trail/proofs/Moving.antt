@@ -9,28 +9,28 @@ use lib.ListN.{length, set, length-set}
 use lib.Seq.{getD-set-same, getD-set-other}
 use borrow.Author.Tests.{eq-eqb, ne-eqb}
 use Rattle.lists.specs.Lists.{at}
-use Rattle.trail.specs.Trail.{place, was, copied, without, Back, Moved}
+use Rattle.trail.specs.Trail.{entryPlace, was, copied, without, Back, Moved}
 
 -- ---- one entry
 
-pub put-back : (l : List ℕ) (j : ℕ) → place l j < 64 → 380 ≤ length l → Back l j (set l (316 + place l j) (was l j))
+pub put-back : (l : List ℕ) (j : ℕ) → entryPlace l j < 64 → 380 ≤ length l → Back l j (set l (316 + entryPlace l j) (was l j))
 put-back l j small room = record {
-  frame = record { size = length-set l (316 + place l j) (was l j); rest = λ i h. rest i h };
-  copy = λ i s. copy i (ℕ-discrete i (place l j));
+  frame = record { size = length-set l (316 + entryPlace l j) (was l j); rest = λ i h. rest i h };
+  copy = λ i s. copy i (ℕ-discrete i (entryPlace l j));
 }
   where
-    rest : (i : ℕ) → (i < 316) ⊎ (380 ≤ i) → at (set l (316 + place l j) (was l j)) i ≡ at l i
-    rest i (inl h) = getD-set-other l (316 + place l j) i (was l j) 0 (omega arith)
-    rest i (inr h) = getD-set-other l (316 + place l j) i (was l j) 0 (omega arith)
+    rest : (i : ℕ) → (i < 316) ⊎ (380 ≤ i) → at (set l (316 + entryPlace l j) (was l j)) i ≡ at l i
+    rest i (inl h) = getD-set-other l (316 + entryPlace l j) i (was l j) 0 (omega arith)
+    rest i (inr h) = getD-set-other l (316 + entryPlace l j) i (was l j) 0 (omega arith)
 
-    copy : (i : ℕ) → Dec (i ≡ place l j) → copied (set l (316 + place l j) (was l j)) i ≡ without l j (copied l) i
-    copy i (yes e) = rw (eq-eqb i (place l j) e, e) (getD-set-same l (316 + place l j) (was l j) 0 (omega arith))
-    copy i (no d) = rw (ne-eqb i (place l j) d) (getD-set-other l (316 + place l j) (316 + i) (was l j) 0 (omega arith))
+    copy : (i : ℕ) → Dec (i ≡ entryPlace l j) → copied (set l (316 + entryPlace l j) (was l j)) i ≡ without l j (copied l) i
+    copy i (yes e) = rw (eq-eqb i (entryPlace l j) e, e) (getD-set-same l (316 + entryPlace l j) (was l j) 0 (omega arith))
+    copy i (no d) = rw (ne-eqb i (entryPlace l j) d) (getD-set-other l (316 + entryPlace l j) (316 + i) (was l j) 0 (omega arith))
 
-pub put-nothing : (l : List ℕ) (j : ℕ) → 64 ≤ place l j → Back l j l
+pub put-nothing : (l : List ℕ) (j : ℕ) → 64 ≤ entryPlace l j → Back l j l
 put-nothing l j large = record {
   frame = record { size = refl; rest = λ i h. refl };
-  copy = λ i s. rw (ne-eqb i (place l j) (omega arith));
+  copy = λ i s. rw (ne-eqb i (entryPlace l j) (omega arith));
 }
 
 -- ---- a table moved

@@ -19,8 +19,8 @@ changes zero l = 0
 changes (suc n) l = changes n l + apart (at l n) (at l (316 + n)) + apart (at l (n + 32)) (at l (316 + (n + 32)))
 
 -- which number of the copy entry j names, and what it was
-abbrev pub place : List ℕ → ℕ → ℕ
-place l j = at l (380 + 2 * j)
+abbrev pub entryPlace : List ℕ → ℕ → ℕ
+entryPlace l j = at l (380 + 2 * j)
 
 abbrev pub was : List ℕ → ℕ → ℕ
 was l j = at l (380 + 2 * j + 1)
@@ -31,7 +31,7 @@ copied l i = at l (316 + i)
 
 -- numbers f with entry j taken back
 abbrev pub without : List ℕ → ℕ → (ℕ → ℕ) → ℕ → ℕ
-without l j f i = cond (eqb i (place l j)) (was l j) (f i)
+without l j f i = cond (eqb i (entryPlace l j)) (was l j) (f i)
 
 -- numbers f with the n entries from entry b on taken back, the last first
 unfoldable pub undone : List ℕ → ℕ → ℕ → (ℕ → ℕ) → ℕ → ℕ

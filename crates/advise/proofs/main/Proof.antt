@@ -4,7 +4,7 @@ use Prim.Native.Nat.{_≤_}
 use lib.ListN.{length}
 use lib.Seq.{length-take-le}
 use borrow.Author.Needs.{needs}
-use Rattle.advise.specs.Reading.{Reads}
+use Rattle.advise.specs.Reading.{InputRead}
 use Rattle.advise.proofs.main.Statement.{statement}
 use Rattle.advise.proofs.main.Tie as tie
 
@@ -13,7 +13,7 @@ within : (c : tie.After-known-told)
     → let r = c .before .before .before .before in c .before .n .given .0 .0 ≤ length (r .read-input .last .0)
 within c =
     let r = c .before .before .before .before in
-    subst (λ x. Reads x (r .read-input .last .0)) (c .before .n .given .1) (r .read-input .ensures)
+    subst (λ x. InputRead x (r .read-input .last .0)) (c .before .n .given .1) (r .read-input .ensures)
 
 slice-aggregate-read-input : tie.Need-slice-aggregate-read-input
 slice-aggregate-read-input c = search needs

@@ -7,7 +7,7 @@ use denote.Enum.Declared.{tagOf}
 use types.Run.{OneOf}
 use borrow.Author.Needs.{needs}
 use Rattle.problem.specs.Places.{spanOf}
-use Rattle.reasons.specs.Says.{Says}
+use Rattle.reason_theory.specs.Says.{Says}
 use Rattle.explain.specs.declared.Said.{Said}
 use Rattle.explain.specs.declared.Said.the-variants as said
 use Rattle.explain.specs.Asking.{shapeIn, placeIn, answer}

@@ -5,7 +5,7 @@ use borrow.Author.Needs.{needs}
 use borrow.Author.Tests.{not-true, not-false}
 use Rattle.rules.specs.Kinds.{kindOf}
 use Rattle.problem.specs.Places.{spanOf}
-use Rattle.reasons.specs.Reason.{fixedFrom}
+use Rattle.reason_theory.specs.Reason.{fixedFrom}
 use Rattle.explain.specs.Places.{placeOf}
 use Rattle.explain.specs.Dropping.{Gone}
 use Rattle.explain.proofs.Questions.{place-used, place-is-used, place-unused}

@@ -3,7 +3,7 @@ use mathlib.Core.Path.{_≡_, ap}
 use borrow.Author.Needs.{needs}
 use Rattle.rules.specs.Kinds.{Place, R, A, B, S}
 use Rattle.problem.specs.Places.{spanOf}
-use Rattle.reasons.specs.Reason.{opened}
+use Rattle.reason_theory.specs.Reason.{opened}
 use Rattle.explain.specs.Places.{placeOf}
 use Rattle.explain.proofs.PlaceNumbers.{last-place}
 use Rattle.explain.proofs.Opening.{changed, changed-opened}

@@ -11,7 +11,7 @@ use Rattle.rules.specs.Kinds.{kindOf}
 use Rattle.rules.specs.ProperProblem.{KindNumber}
 use Rattle.lists.proofs.Bools.{both}
 use Rattle.problem.specs.Lent.{fields}
-use Rattle.problem.specs.Rows.{entry}
+use Rattle.problem.specs.Rows.{rowEntry}
 use Rattle.lists.proofs.Entries.{every, entries}
 use Rattle.problem.proofs.kinds.row.Statement.{statement}
 use Rattle.problem.proofs.kinds.row.Tie as tie
@@ -36,19 +36,19 @@ rows =
 
 -- each row has six columns, and in each column what the row of its kind has
 right : ℕ → List ℕ → Bool
-right κ xs = eqb (length xs) fields && every (λ c x. eqb x (entry (kindOf (suc κ)) c)) 0 xs
+right κ xs = eqb (length xs) fields && every (λ c x. eqb x (rowEntry (kindOf (suc κ)) c)) 0 xs
 
-row-right : (κ c : ℕ) → κ < 14 → c < fields → getD (getD rows κ []) c 0 ≡ entry (kindOf (suc κ)) c
+row-right : (κ c : ℕ) → κ < 14 → c < fields → getD (getD rows κ []) c 0 ≡ rowEntry (kindOf (suc κ)) c
 unfolding rows right kindOf
 row-right κ c l m =
     let (e, t) = both (eqb (length (getD rows κ [])) fields) _ (entries right [] rows tt κ l) in
     let n : c < length (getD rows κ []) = omega (arith, eqb→eq (length (getD rows κ [])) fields e) in
-    eqb→eq (getD (getD rows κ []) c 0) (entry (kindOf (suc κ)) c) (entries (λ c x. eqb x (entry (kindOf (suc κ)) c)) 0 (getD rows κ []) t c n)
+    eqb→eq (getD (getD rows κ []) c 0) (rowEntry (kindOf (suc κ)) c) (entries (λ c x. eqb x (rowEntry (kindOf (suc κ)) c)) 0 (getD rows κ []) t c n)
 
-row-at : (κ c : ℕ) → KindNumber κ → c < fields → getD (getD rows (κ - 1) []) c 0 ≡ entry (kindOf κ) c
+row-at : (κ c : ℕ) → KindNumber κ → c < fields → getD (getD rows (κ - 1) []) c 0 ≡ rowEntry (kindOf κ) c
 row-at κ c h m =
     let e : suc (κ - 1) ≡ κ = omega arith in
-    subst (λ x. getD (getD rows (κ - 1) []) c 0 ≡ entry (kindOf x) c) e (row-right (κ - 1) c (omega arith) m)
+    subst (λ x. getD (getD rows (κ - 1) []) c 0 ≡ rowEntry (kindOf x) c) e (row-right (κ - 1) c (omega arith) m)
 
 sub-at : tie.Need-sub-at
 sub-at c = search needs

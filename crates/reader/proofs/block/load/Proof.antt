@@ -3,14 +3,14 @@ use mathlib.Core.Path.{_≡_}
 use Prim.Native.Nat.{_+_, _≤_, _-_}
 use native.Mathlib.Omega.{arith}
 use borrow.Author.Needs.{needs}
-use Rattle.blocks.specs.Bytes.{number}
+use Rattle.blocks.specs.Bytes.{fromLe}
 use Rattle.lists.specs.Lists.{part, Under}
 use Rattle.reader.proofs.Loading.{load-start, load-turn, load-fits, load-end}
 use Rattle.reader.proofs.block.load.Statement.{statement}
 use Rattle.reader.proofs.block.load.Tie as tie
 
 abbrev Inv-loop : tie.InvT-loop
-Inv-loop b at k x₀ i₀ x i = (i ≤ k) × (x ≡ number (part b (at + i) (k - i)))
+Inv-loop b at k x₀ i₀ x i = (i ≤ k) × (x ≡ fromLe (part b (at + i) (k - i)))
 
 abbrev μ-loop : tie.MeasureT-loop
 μ-loop b at k x₀ i₀ x i = i

@@ -6,7 +6,7 @@ use Rattle.blocks.specs.Edition.{edition1}
 use Rattle.blocks.specs.File.{blockAt}
 use Rattle.blocks.proofs.Fair.{fair1}
 use Rattle.blocks.proofs.Shape.{run-shaped}
-use Rattle.reader.specs.Scans.{Stepped, Stands}
+use Rattle.reader.specs.Scans.{BlockStep, Stands}
 use Rattle.reader.specs.declared.State.{State}
 use Rattle.reader.proofs.Turns.{cut, stepped-there, sum-right, sum-wrong, Here, of-going, turn-check, turn-ended, turn-fault, turn-go, turn-done}
 use Rattle.reader.proofs.machine.turn_at.Statement.{statement}
@@ -29,7 +29,7 @@ abbrev start : tie.After-step-on → tie.Start
 start c = c .before .before .before .before .before .before .before .before
 
 stepped : (c : tie.After-step-on)
-    → Stepped (blockAt (start c .args .file .now) (start c .args .i)) (start c .args .i)
+    → BlockStep (blockAt (start c .args .file .now) (start c .args .i)) (start c .args .i)
     (c .before .before .state .given .0 .0) (c .before .before .state .given .0 .1 .0)
     (c .step-on .result)
 stepped c = stepped-there _ _ (c .step-on .ensures)
@@ -87,20 +87,20 @@ returns-3 : tie.Need-returns-3
 returns-3 c =
     let o = c .before .before .before in
     let g = o .before .before in
-    turn-go (here (g .before .before .before .before .before)) (going-told g) (subst (Stepped _ _ _ _) (c .before .s .given .1) (stepped o))
+    turn-go (here (g .before .before .before .before .before)) (going-told g) (subst (BlockStep _ _ _ _) (c .before .s .given .1) (stepped o))
 
 returns-4 : tie.Need-returns-4
 returns-4 c =
     let o = c .before .before .before in
     let g = o .before .before in
-    turn-done (here (g .before .before .before .before .before)) (going-told g) (subst (Stepped _ _ _ _) (c .before .s2 .given .1) (stepped o))
+    turn-done (here (g .before .before .before .before .before)) (going-told g) (subst (BlockStep _ _ _ _) (c .before .s2 .given .1) (stepped o))
 
 returns-5 : tie.Need-returns-5
 returns-5 c =
     let o = c .before .before in
     let g = o .before .before in
     let e = g .before .before in
-    turn-fault (here (e .before .before .before)) (going-told g) (right e) (subst (Stepped _ _ _ _) (c .enum-told2 .given .1) (stepped o))
+    turn-fault (here (e .before .before .before)) (going-told g) (right e) (subst (BlockStep _ _ _ _) (c .enum-told2 .given .1) (stepped o))
 
 pub turn-at-spec : {M : Type 1} → statement M
 turn-at-spec =

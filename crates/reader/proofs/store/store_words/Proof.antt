@@ -4,7 +4,7 @@ use mathlib.Core.Path.{ap, _∙_}
 use Prim.Native.Nat.{_*_, _≤_, _-_}
 use borrow.Author.Needs.{needs}
 use lib.ListN.{length, take, length-set}
-use Rattle.blocks.specs.Bytes.{number}
+use Rattle.blocks.specs.Bytes.{fromLe}
 use Rattle.lists.specs.Lists.{part, put}
 use Rattle.blocks.specs.Decode.{wordsIn}
 use Rattle.blocks.specs.Written.{blocksFor}
@@ -51,7 +51,7 @@ loop-again c =
     let a = s .args in
     let turn =
     words-turn (a .file .now) (a .n) (a .out .now) (l .before .loop .out) (l .before .loop .x) (c .load .result) (s .pre .1) (l .loop-test .taken)
-    (l .before .loop .inv .2) (c .load .ensures ∙ ap (λ y. number (part (a .file .now) y 8)) (c .before .slot-of .ensures)) in
+    (l .before .loop .inv .2) (c .load .ensures ∙ ap (λ y. fromLe (part (a .file .now) y 8)) (c .before .slot-of .ensures)) in
     (search needs, simp length-set (l .before .loop .inv .1), turn)
 
 same-length : tie.Need-same-length Inv-loop μ-loop

@@ -1,0 +1,14 @@
+pub mod Outcomes
+pub mod Inversion
+pub mod Unique
+pub mod Right
+pub mod Falls
+pub mod Ceiling
+pub mod Limit
+pub mod Run
+pub mod Number
+pub mod Inputs
+pub mod Order
+pub mod Solved
+pub mod Problem
+pub mod TheCeiling

@@ -1,0 +1,4 @@
+pub mod Settings
+pub mod Search
+pub mod Guesses
+pub mod Ceiling

@@ -1,3 +1,0 @@
-pub mod Guessing
-pub mod Searching
-pub mod Starting
