@@ -133,16 +133,16 @@ class Refusals(unittest.TestCase):
                 self.assertEqual(advise(file), f"refused {fault.value} {place}\n".encode())
 
     def test_sentences_say_what_and_where_and_what_to_do(self):
-        self.assertEqual(str(Refusal(2, 3)), "refused, 2 CHECK: block 3 has a wrong sum; fetch the file again, or write it anew")
-        self.assertEqual(str(Refusal(4, 31)), "refused, 4 WIDTH: word 31 has a width that is not 1 to 64; give the register's width")
-        self.assertEqual(str(Refusal(6, 251)), "refused, 6 KIND: rule 251 has a kind that is not 1 to 14; use a number of Kind")
+        self.assertEqual(str(Refusal(2, 3)), "refused, 2 CHECK, block 3: the block's sum is wrong; fetch the file again, or write it anew")
+        self.assertEqual(str(Refusal(4, 31)), "refused, 4 WIDTH, word 31: the word's width is not 1 to 64; give the register's width")
+        self.assertEqual(str(Refusal(6, 251)), "refused, 6 KIND, rule 251: the rule's kind is not 1 to 14; use the number of a kind")
         self.assertEqual(str(Refusal(9, 0)), "refused, 9 LIMIT: the limit is over 1000000; give a smaller one")
 
     def test_every_refusal_has_its_own_sentence_with_its_place(self):
-        places = ["", "block 5 ", "block 5 ", "word 5 ", "word 5 ", "rule 5 ", "rule 5 ", "rule 5 ", "", "", ""]
+        places = ["", ", block 5", ", block 5", ", word 5", ", word 5", ", rule 5", ", rule 5", ", rule 5", "", "", ""]
         self.assertEqual([fault.value for fault in Fault], list(range(1, 12)))
         for fault, place in zip(Fault, places):
-            self.assertEqual(str(Refusal(fault, 5)), f"refused, {fault.value} {fault.name}: {place}{SENTENCES[fault]}")
+            self.assertEqual(str(Refusal(fault, 5)), f"refused, {fault.value} {fault.name}{place}: {SENTENCES[fault]}")
             self.assertIn("; ", SENTENCES[fault])
         self.assertEqual(len(set(SENTENCES.values())), len(Fault))
 
