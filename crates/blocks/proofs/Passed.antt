@@ -12,13 +12,7 @@ use Rattle.checker.specs.Promise.{Fine}
 use Rattle.lists.proofs.Series.{length-series}
 use Rattle.problem.proofs.Lents.{width-at}
 use Rattle.checker.proofs.Right.{ok-fine}
-use Rattle.lists.specs.Lists.{Under}
-use Rattle.blocks.specs.Written.{Storable}
-
--- numbers as a slice of u64 and a slice of u8 hold them
-pub record Slices (ws bs : List ℕ) : Type 0 where
-  pub words : Under (2 ^ 64) ws
-  pub rules : Under 256 bs
+use Rattle.blocks.specs.Written.{Storable, Slices}
 
 pub passed : {limit : ℕ} {ws bs : List ℕ} → Slices ws bs → refusalWith limit ws bs ≡ Ok → Storable limit ws bs
 passed {limit} {ws} {bs} u e = from (ok-fine limit ws bs e)

@@ -12,9 +12,9 @@ use Rattle.blocks.specs.declared.Reading.{Reading}
 use Rattle.blocks.specs.declared.Written.{Written}
 use Rattle.lists.specs.Lists.{put}
 use Rattle.blocks.specs.Edition.{edition1}
-use Rattle.blocks.specs.Written.{encode, IsFile}
+use Rattle.blocks.specs.Written.{encode, IsFile, Slices}
 use Rattle.blocks.specs.Promise.{Room, problemOf, Reads, Writes}
-use Rattle.blocks.proofs.Passed.{Slices, passed}
+use Rattle.blocks.proofs.Passed.{passed}
 use Rattle.blocks.proofs.Promise.{read-once, write-once}
 
 pub write-read : {limit k : ℕ} {ws bs f g a b y z : List ℕ} {r : Reading} → Slices ws bs → Writes edition1 limit ws bs f g (Written.Ok k) → Room a b

@@ -63,3 +63,8 @@ pub record Storable (limit : ℕ) (ws bs : List ℕ) : Type 0 where
 pub record IsFile (E : Edition) (limit : ℕ) (ws bs f : List ℕ) : Type 0 where
   pub storable : Storable limit ws bs
   pub same : f ≡ encode E limit ws bs
+
+-- numbers as a slice of u64 and a slice of u8 hold them
+pub record Slices (ws bs : List ℕ) : Type 0 where
+  pub words : Under (2 ^ 64) ws
+  pub rules : Under 256 bs

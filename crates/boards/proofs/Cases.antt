@@ -14,7 +14,8 @@ use Rattle.lists.specs.Lists.{series, flat, Under}
 use Rattle.tighten.specs.Memory.{Cleared}
 use Rattle.decimal.specs.Text.{digits, decimal}
 use Rattle.lists.proofs.Unders.{under-none, under-cons}
-use Rattle.blocks.proofs.Passed.{Slices, passed}
+use Rattle.blocks.specs.Written.{Slices}
+use Rattle.blocks.proofs.Passed.{passed}
 use Rattle.report.specs.declared.Advised.{Advised}
 use Rattle.report.specs.declared.Advised.the-variants as answer
 use Rattle.report.specs.Text.{items, line, binary, wordLines, causeLine, textOf, Report, sat, unsat, named}

@@ -14,7 +14,8 @@ use Rattle.problem.specs.Lent.{widthsOf, tableOf, rulesOf}
 use Rattle.search_theory.specs.Settings.{Settings, Without}
 use Rattle.cause_theory.specs.Cause.{CAUSE}
 use Rattle.cause_theory.proofs.Without.{cause-without, cause-some}
-use Rattle.cause_theory.proofs.Irreducible.{In, cause-irreducible}
+use Rattle.lists.specs.Every.{In}
+use Rattle.cause_theory.proofs.Irreducible.{cause-irreducible}
 use Rattle.cause.specs.declared.Caused.the-variants as answer
 use Rattle.cause.specs.Promise.{Named, Causing, caused-by, CauseGiven}
 use Rattle.cause.proofs.Calling.{fine}

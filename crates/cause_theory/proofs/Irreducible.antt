@@ -10,16 +10,12 @@ use lib.Seq.{getD-take, getD-append-add, length-take-le}
 use Rattle.words.specs.Table.{Table}
 use Rattle.rules.specs.Tight.{Rule, rule, none-rule, HoldsAt, Tight, AllHold}
 use Rattle.rules.proofs.Agree.{tight-agree}
-use Rattle.lists.specs.Every.{Any, here, there}
+use Rattle.lists.specs.Every.{here, there, In}
 use Rattle.lists.proofs.Every.{any-none}
 use Rattle.search_theory.specs.Settings.{Settings}
 use Rattle.search_theory.specs.Search.{found}
 use Rattle.search_theory.proofs.Right.{right}
 use Rattle.cause_theory.specs.Cause.{CAUSE, trial, Tried, Trims, decided, spared, needed, Causes, trimmed}
-
--- k is in a list
-abbrev pub In : ℕ → List ℕ → Type 0
-In k l = Any (λ m. k ≡ m) l
 
 -- ---- rules by their numbers
 

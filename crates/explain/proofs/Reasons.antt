@@ -9,7 +9,7 @@ use lib.Seq.{take-at, drop-at}
 use Rattle.checker.specs.Promise.{Taken}
 use Rattle.rules.specs.Kinds.{Place}
 use Rattle.rules.specs.Meaning.{Shape}
-use Rattle.rules.specs.Fits.{Span, Legal}
+use Rattle.rules.specs.Fits.{Span}
 use Rattle.rules.specs.Tight.{rule, shape, span}
 use Rattle.rules.proofs.ProperRules.{rule-legal}
 use Rattle.checker.specs.declared.Checked.the-variants.{Refused, Ok}
@@ -24,7 +24,7 @@ use Rattle.explain.specs.declared.Explained.{Explained}
 use Rattle.explain.specs.declared.Explained.the-variants as explained
 use Rattle.explain.specs.Places.{placeOf}
 use Rattle.explain.specs.Dropping.{reasonPut}
-use Rattle.explain.specs.Promise.{entries, given, Explanation, Tells, tells-conflict, tells-forced, Judged, not-asked, answered, Explaining, refused, judged, explainRefusal}
+use Rattle.explain.specs.Promise.{entries, given, Explanation, Tells, tells-conflict, tells-forced, Judged, not-asked, answered, Explaining, refused, judged, explainRefusal, Listing}
 use Rattle.checker.proofs.Rooms.{taken}
 
 -- what tells a reason of c entries is given for no other answer, and with no other count
@@ -43,13 +43,6 @@ refused-tells h = elim h [ ]
 not-refused : (ws bs l : List ℕ) → explainRefusal ws bs l ≡ Ok → Taken entries (length l) ws bs
 unfolding explainRefusal
 not-refused ws bs l e = taken entries (length l) ws bs e
-
--- the first c numbers of the list are the reason, and the others are as they were
-pub record Listing (σ : Shape) (t : Span) (p : Place) (j : ℕ) (x : Answer) (c : ℕ) (l m : List ℕ) : Type 0 where
-  pub legal : Legal σ t
-  pub reason : Explains σ t p j x (take c m)
-  pub count : length (take c m) ≡ c
-  pub rest : drop c m ≡ drop c l
 
 module _ {ws bs : List ℕ} {n p j : ℕ} {l : List ℕ} where
   pub listing : {m : List ℕ} {r : Explained} {x : Answer} {c : ℕ} → Explaining ws bs n p j l r m → Tells r x c

@@ -2,10 +2,10 @@
 use mathlib.Core.Path.{_≡_}
 use mathlib.Core.List.{List}
 use Prim.Native.Nat.{ℕ, _≤_, _<_}
-use lib.ListN.{length}
+use lib.ListN.{length, take, drop}
 use Rattle.rules.specs.Kinds.{Place}
 use Rattle.rules.specs.Meaning.{Shape}
-use Rattle.rules.specs.Fits.{Span}
+use Rattle.rules.specs.Fits.{Span, Legal}
 use Rattle.rules.specs.Tight.{rule, shape, span}
 use Rattle.checker.specs.declared.Checked.{Checked}
 use Rattle.checker.specs.declared.Checked.the-variants.{Ok, Refused}
@@ -66,3 +66,10 @@ module _ (ws bs : List ℕ) (n p j : ℕ) where
   pub data Explaining (l : List ℕ) : Explained → List ℕ → Type 0 where
     refused : {number place : ℕ} → explainRefusal ws bs l ≡ Refused number place → Explaining l (explained.Refused number place) l
     judged : {r : Explained} {m : List ℕ} → explainRefusal ws bs l ≡ Ok → Judged l r m → Explaining l r m
+
+-- the first c numbers of the list are the reason, and the others are as they were
+pub record Listing (σ : Shape) (t : Span) (p : Place) (j : ℕ) (x : Answer) (c : ℕ) (l m : List ℕ) : Type 0 where
+  pub legal : Legal σ t
+  pub reason : Explains σ t p j x (take c m)
+  pub count : length (take c m) ≡ c
+  pub rest : drop c m ≡ drop c l

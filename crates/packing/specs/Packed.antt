@@ -85,3 +85,8 @@ written (Written.Refused n p) = parts n p 0
 abbrev pub advised : Advised → Parts
 advised (Advised.Lines e) = parts OK e 0
 advised (Advised.Refused n p) = parts n p 0
+
+-- a refusal: its number is below 32, its place below 252
+pub record SmallRefusal (n p : ℕ) : Type 0 where
+  pub number : n < 32
+  pub place : p < 252

@@ -2,9 +2,8 @@
 use mathlib.Core.Path.{_≡_}
 use mathlib.Core.List.{List}
 use Prim.Native.Nat.{ℕ, _<_}
-use lib.ListN.{length}
 use Rattle.words.specs.Table.{Table, point}
-use Rattle.rules.specs.Tight.{Rule, Tight, AllHold, rule}
+use Rattle.rules.specs.Tight.{Rule, Tight, AllHold, rule, RulesIn}
 use Rattle.rules.proofs.Tight.{holds-tight, tight-holds}
 
 -- a fixed table is tight just where the rules hold
@@ -18,12 +17,6 @@ tight-agree w rs = record {
   holds-of = λ v h. record { each = λ n l. tight-holds w v (rule rs n) (h .each n l) };
 }
 
--- every rule of rs is listed in rs′
-pub record Listed (rs rs′ : List Rule) : Type 0 where
-  pub number : (n : ℕ) → n < length rs → ℕ
-  pub reached : (n : ℕ) (l : n < length rs) → number n l < length rs′
-  pub equal : (n : ℕ) (l : n < length rs) → rule rs′ (number n l) ≡ rule rs n
-
-module _ {w : List ℕ} {rs rs′ : List Rule} (e : Listed rs rs′) where
+module _ {w : List ℕ} {rs rs′ : List Rule} (e : RulesIn rs rs′) where
   pub tight-listed : (t : Table) → Tight w rs′ t → Tight w rs t
   tight-listed t h = record { each = λ n l. rw (e .equal n l) at (h .each (e .number n l) (e .reached n l)) }

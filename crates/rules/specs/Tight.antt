@@ -57,3 +57,9 @@ HoldsAt w v ρ = Holds (kindOf (ρ .kind)) (λ p. at w (word ρ p)) (ρ .k) (λ 
 -- all the rules hold for the values v of the words
 pub record AllHold (w : List ℕ) (rs : List Rule) (v : List ℕ) : Type 0 where
   pub each : (n : ℕ) → n < length rs → HoldsAt w v (rule rs n)
+
+-- every rule of rs is listed in rs′
+pub record RulesIn (rs rs′ : List Rule) : Type 0 where
+  pub number : (n : ℕ) → n < length rs → ℕ
+  pub reached : (n : ℕ) (l : n < length rs) → number n l < length rs′
+  pub equal : (n : ℕ) (l : n < length rs) → rule rs′ (number n l) ≡ rule rs n

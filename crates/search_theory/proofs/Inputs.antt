@@ -10,12 +10,12 @@ use Rattle.words.specs.Count.{openBelow}
 use Rattle.words.proofs.Order.{bit-lt}
 use Rattle.words.proofs.Tables.{in-reach, word-closed, self}
 use Rattle.words.proofs.Falls.{open-less}
-use Rattle.rules.specs.Tight.{Rule, Tight}
+use Rattle.rules.specs.Tight.{Rule, Tight, RulesIn}
 use Rattle.rules.specs.Tightening.{Widest}
 use Rattle.rules.specs.Inputs.{Computed, Inputs}
 use Rattle.rules.proofs.Tight.{result-fixed}
 use Rattle.rules.proofs.OneWidest.{widest-narrower}
-use Rattle.rules.proofs.Agree.{Listed, tight-listed}
+use Rattle.rules.proofs.Agree.{tight-listed}
 use Rattle.search_theory.proofs.Ceiling.{Driven}
 
 open-wider : {s t : Table} {i j : ℕ} → Inside s t → Open s i j → Open t i j
@@ -38,7 +38,7 @@ inputs-drive w rs t m inputs = record { drives = λ u i j tu p g. go u i j tu p 
     go u i j tu p g (no n) =
         absurd (no-guess u i j tu p g (inputs .follows i (omega arith) (omega (arith, in-reach (u .hi) i j (g .here .on), p .his))))
 
-module _ {rs rs′ : List Rule} (e : Listed rs rs′) where
+module _ {rs rs′ : List Rule} (e : RulesIn rs rs′) where
   computed-listed : {i : ℕ} → Computed rs i → Computed rs′ i
   computed-listed c = record {
     number = e .number (c .number) (c .listed);

@@ -2,10 +2,10 @@
 use mathlib.Core.List.{List}
 use Prim.Native.Nat.{ℕ}
 use Rattle.words.specs.Table.{Table}
-use Rattle.rules.specs.Tight.{Rule, Tight}
+use Rattle.rules.specs.Tight.{Rule, Tight, RulesIn}
 use Rattle.rules.specs.Tightening.{Widest}
 use Rattle.rules.proofs.OneWidest.{widest-same, conflict-more}
-use Rattle.rules.proofs.Agree.{Listed, tight-listed}
+use Rattle.rules.proofs.Agree.{tight-listed}
 use Rattle.search_theory.specs.Search.{Outcome, Search, conflict, settled, stopped, first, second}
 
 module _ {P Q : Table → Type 0} (to : (t : Table) → P t → Q t) (from : (t : Table) → Q t → P t) where
@@ -16,9 +16,9 @@ module _ {P Q : Table → Type 0} (to : (t : Table) → P t → Q t) (from : (t 
   search-same (first w h l s e) = first (widest-same to from w) h l (search-same s) e
   search-same (second w h l s r) = second (widest-same to from w) h l (search-same s) (search-same r)
 
-pub tight-reordered : {w : List ℕ} {rs rs′ : List Rule} {t u : Table} → Listed rs rs′ → Listed rs′ rs → Widest (Tight w rs) t u → Widest (Tight w rs′) t u
+pub tight-reordered : {w : List ℕ} {rs rs′ : List Rule} {t u : Table} → RulesIn rs rs′ → RulesIn rs′ rs → Widest (Tight w rs) t u → Widest (Tight w rs′) t u
 tight-reordered e e′ x = widest-same (tight-listed e′) (tight-listed e) x
 
-pub search-reordered : {w : List ℕ} {rs rs′ : List Rule} {limit : ℕ} {t : Table} {g : ℕ} {o : Outcome} → Listed rs rs′ → Listed rs′ rs
+pub search-reordered : {w : List ℕ} {rs rs′ : List Rule} {limit : ℕ} {t : Table} {g : ℕ} {o : Outcome} → RulesIn rs rs′ → RulesIn rs′ rs
     → Search (Tight w rs) limit t g o → Search (Tight w rs′) limit t g o
 search-reordered e e′ s = search-same (tight-listed e′) (tight-listed e) s

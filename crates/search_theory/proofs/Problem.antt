@@ -6,18 +6,18 @@ use Prim.Native.Nat.{ℕ, suc, _^_, _≤_, _<_}
 use native.Mathlib.Omega.{arith}
 use Rattle.words.specs.Table.{Table}
 use Rattle.words.specs.Count.{openBelow}
-use Rattle.rules.specs.Tight.{Rule, Tight, AllHold}
+use Rattle.rules.specs.Tight.{Rule, Tight, AllHold, RulesIn}
 use Rattle.rules.specs.Proper.{Proper}
 use Rattle.rules.specs.Tightening.{Widest, Conflict}
 use Rattle.rules.specs.Inputs.{Inputs}
-use Rattle.rules.proofs.Agree.{Listed, tight-agree}
+use Rattle.rules.proofs.Agree.{tight-agree}
 use Rattle.rules.proofs.Propers.{proper-inside}
 use Rattle.rules.proofs.Steps.{tightened}
 use Rattle.rules.proofs.Widest.{every-table}
-use Rattle.search_theory.specs.Search.{Outcome, none, gave-up, count, Search}
+use Rattle.search_theory.specs.Search.{Outcome, none, gave-up, count, Search, OutcomeRight}
 use Rattle.search_theory.specs.Guesses.{Guesses}
 use Rattle.search_theory.proofs.Unique.{one-outcome}
-use Rattle.search_theory.proofs.Right.{Right, right}
+use Rattle.search_theory.proofs.Right.{right}
 use Rattle.search_theory.proofs.Inversion.{at-conflict}
 use Rattle.search_theory.proofs.Limit.{Answer, answer-found, answer-none}
 use Rattle.search_theory.proofs.Ceiling.{Within, ceiling, ceiling-answers}
@@ -37,7 +37,7 @@ module _ (w : List ℕ) (rs : List Rule) (t : Table) (proper : Proper w t) where
   )
 
   -- what is found is the first of the settings; where none is said there are none
-  pub outcome-right : (limit : ℕ) (o : Outcome) → Search (Tight w rs) limit t 0 o → Right (AllHold w rs) t o
+  pub outcome-right : (limit : ℕ) (o : Outcome) → Search (Tight w rs) limit t 0 o → OutcomeRight (AllHold w rs) t o
   outcome-right limit o s = right (Tight w rs) (AllHold w rs) (tight-agree w rs) s
 
   -- there is a number G, which decides at every limit
@@ -68,7 +68,7 @@ module _ (w : List ℕ) (rs : List Rule) (t : Table) (proper : Proper w t) where
     limit-reached limit o l s = ceiling-answers (Tight w rs) limit m t (inputs-drive w rs t m inputs) (proper-inside proper) tight l s
 
     -- with rules added the first tightening conflicts, or there is a tight table with no more open bits in the first m words, which still are inputs
-    pub more-rules : (rs′ : List Rule) → Listed rs rs′
+    pub more-rules : (rs′ : List Rule) → RulesIn rs rs′
         → Inputs rs′ t m × (Conflict (Tight w rs′) t ⊎ ((u′ : Table) × Widest (Tight w rs′) t u′ × (openBelow m u′ ≤ openBelow m u)))
     more-rules rs′ e = (inputs-stay e inputs, go (every-table w rs′ t proper))
       where

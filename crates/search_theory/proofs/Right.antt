@@ -10,12 +10,7 @@ use Rattle.rules.specs.Tightening.{Widest, Conflict}
 use Rattle.rules.proofs.OneWidest.{widest-whole}
 use Rattle.rules.proofs.Agree.{Agree}
 use Rattle.search_theory.specs.Settings.{Settings, First, Without}
-use Rattle.search_theory.specs.Search.{Outcome, found, none, gave-up, Ends, Search, conflict, settled, stopped, first, second}
-
-abbrev pub Right : (List ℕ → Type 0) → Table → Outcome → Type 0
-Right Holds t (found v n) = First Holds t v
-Right Holds t (none n) = Without Holds t
-Right Holds t gave-up = Unit {0}
+use Rattle.search_theory.specs.Search.{Outcome, found, none, gave-up, Ends, Search, conflict, settled, stopped, first, second, OutcomeRight}
 
 module _ (Tight : Table → Type 0) (Holds : List ℕ → Type 0) (agree : Agree Tight Holds) where
   -- settings survive tightening
@@ -60,7 +55,7 @@ module _ (Tight : Table → Type 0) (Holds : List ℕ → Type 0) (agree : Agree
     in1 : Inside (with1 u i j) t
     in1 = inside-trans (inside1 u i j (widest-whole Tight w) (g .here)) (w .inside)
 
-    from0 : (o : Outcome) → Ends o → Right Holds (with0 u i j) o → Right Holds t o
+    from0 : (o : Outcome) → Ends o → OutcomeRight Holds (with0 u i j) o → OutcomeRight Holds t o
     from0 (found v n) e f = record { settings = settings-wider in0 (f .settings); before = λ x s. go x (split x s) }
       where
         go : (x : List ℕ) → Settings Holds (with0 u i j) x ⊎ Settings Holds (with1 u i j) x → (x ≡ v) ⊎ Earlier v x
@@ -69,7 +64,7 @@ module _ (Tight : Table → Type 0) (Holds : List ℕ → Type 0) (agree : Agree
     from0 (none n) e f = elim e [ ]
     from0 gave-up e f = tt
 
-    from1 : (o : Outcome) → Without Holds (with0 u i j) → Right Holds (with1 u i j) o → Right Holds t o
+    from1 : (o : Outcome) → Without Holds (with0 u i j) → OutcomeRight Holds (with1 u i j) o → OutcomeRight Holds t o
     from1 (found v n) no0 f = record { settings = settings-wider in1 (f .settings); before = λ x s. go x (split x s) }
       where
         go : (x : List ℕ) → Settings Holds (with0 u i j) x ⊎ Settings Holds (with1 u i j) x → (x ≡ v) ⊎ Earlier v x
@@ -83,7 +78,7 @@ module _ (Tight : Table → Type 0) (Holds : List ℕ → Type 0) (agree : Agree
     from1 gave-up no0 f = tt
 
   -- every outcome of the search is right
-  pub right : {limit : ℕ} {t : Table} {g : ℕ} {o : Outcome} → Search Tight limit t g o → Right Holds t o
+  pub right : {limit : ℕ} {t : Table} {g : ℕ} {o : Outcome} → Search Tight limit t g o → OutcomeRight Holds t o
   right (conflict c) = conflict-without c
   right (settled w d) = done-first w d
   right (stopped w h l) = tt

@@ -11,10 +11,9 @@ use Rattle.words.specs.Table.{Table}
 use Rattle.words.specs.Word.{openIn}
 use Rattle.words.specs.Count.{openBelow}
 use Rattle.words.proofs.Counting.{fewer-words}
-use Rattle.rules.specs.Tight.{Rule, Tight}
+use Rattle.rules.specs.Tight.{Rule, Tight, RulesIn}
 use Rattle.rules.specs.Proper.{Proper}
 use Rattle.rules.specs.Tightening.{Widest}
-use Rattle.rules.proofs.Agree.{Listed}
 use Rattle.rules.proofs.Propers.{proper-inside}
 use Rattle.rules.proofs.LeastInputs.{least-inputs}
 use Rattle.search_theory.specs.Search.{Outcome, gave-up, Search}
@@ -46,7 +45,7 @@ module _ (w : List ℕ) (rs : List Rule) (t : Table) (proper : Proper w t) where
     ceiling-reached limit o l s = limit-reached w rs t proper (top .words) (top .inputs) u tight limit o (omega (arith, top .number)) s
 
     -- rules added never raise the ceiling
-    pub ceiling-falls : (rs′ : List Rule) → Listed rs rs′ → (u′ : Table) → Widest (Tight w rs′) t u′ → (d : ℕ) → Ceiling rs′ t u′ d → d ≤ c
+    pub ceiling-falls : (rs′ : List Rule) → RulesIn rs rs′ → (u′ : Table) → Widest (Tight w rs′) t u′ → (d : ℕ) → Ceiling rs′ t u′ d → d ≤ c
     ceiling-falls rs′ e u′ tight′ d top′ =
         let fewer = top′ .least (top .words) (inputs-stay e (top .inputs)) in
         let less : openBelow (top′ .words) u′ ≤ openBelow (top .words) u = le-trans (fewer-words u′ _ _ fewer) (open-no-more e tight tight′ (top .words)) in

@@ -2,6 +2,7 @@
 -- `Tight` may be any property of tables: neither the kinds, nor how tightening is done, nor the order of rules enters here.
 use mathlib.Core.List.{List}
 use Prim.Native.Nat.{ℕ, suc, _≤_, _<_}
+use Rattle.search_theory.specs.Settings.{First, Without}
 use Rattle.words.specs.Table.{Table, Guess, Done, with0, with1}
 use Rattle.rules.specs.Tightening.{Widest, Conflict}
 
@@ -36,3 +37,9 @@ pub data Search (Tight : Table → Type 0) (limit : ℕ) : Table → ℕ → Out
   -- fixed 0 it has none: fixed 1 in the same tight table, which is not a guess
   second : {t u : Table} {g i j n : ℕ} {o : Outcome} → Widest Tight t u → Guess u i j → g < limit
       → Search Tight limit (with0 u i j) (suc g) (none n) → Search Tight limit (with1 u i j) n o → Search Tight limit t g o
+
+-- what an outcome says of the settings: those found are the first, where none is said there are none
+abbrev pub OutcomeRight : (List ℕ → Type 0) → Table → Outcome → Type 0
+OutcomeRight Holds t (found v n) = First Holds t v
+OutcomeRight Holds t (none n) = Without Holds t
+OutcomeRight Holds t gave-up = Unit {0}

@@ -44,13 +44,13 @@ use Rattle.report.specs.declared.Advised.{Advised}
 use Rattle.report.specs.Printed.{most}
 use Rattle.report.specs.Promise as Report
 use Rattle.report.proofs.Advising.{lines-within}
-use Rattle.packing.specs.Packed.{parts, Within, checked, tightened, solved, explained, caused, read, written, advised}
-use Rattle.sievecrest.proofs.Refusals.{Small, check-refused, tighten-refused, solve-refused, explain-refused, cause-refused, read-refused, write-refused, advise-refused}
+use Rattle.packing.specs.Packed.{parts, Within, checked, tightened, solved, explained, caused, read, written, advised, SmallRefusal}
+use Rattle.sievecrest.proofs.Refusals.{check-refused, tighten-refused, solve-refused, explain-refused, cause-refused, read-refused, write-refused, advise-refused}
 
 within : (n c m : ℕ) → n < 256 → c < 4294967296 → m < 16777216 → Within (parts n c m)
 within n c m a b d = record { number = a; count = b; more = d }
 
-small-within : {n p : ℕ} → Small n p → Within (parts n p 0)
+small-within : {n p : ℕ} → SmallRefusal n p → Within (parts n p 0)
 small-within {n} {p} h = within n p 0 (omega (arith, h .number)) (omega (arith, h .place)) (omega arith)
 
 -- ---- check
@@ -58,7 +58,7 @@ small-within {n} {p} h = within n p 0 (omega (arith, h .number)) (omega (arith, 
 pub check-within : (limit : ℕ) (ws bs : List ℕ) → Within (checked (refusalWith limit ws bs))
 check-within limit ws bs = go (refusalWith limit ws bs) (λ n p. check-refused limit ws bs)
   where
-    go : (x : Checked) → ((n p : ℕ) → x ≡ Checked.Refused n p → Small n p) → Within (checked x)
+    go : (x : Checked) → ((n p : ℕ) → x ≡ Checked.Refused n p → SmallRefusal n p) → Within (checked x)
     go Checked.Ok h = within 35 0 0 (omega arith) (omega arith) (omega arith)
     go (Checked.Refused n p) h = small-within (h n p refl)
 

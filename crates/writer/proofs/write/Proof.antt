@@ -6,8 +6,8 @@ use borrow.Author.Tests.{not-true, not-false}
 use lib.ListN.{length}
 use Rattle.blocks.specs.Edition.{edition1}
 use Rattle.blocks.specs.Promise.{Writes}
-use Rattle.blocks.specs.Written.{encode}
-use Rattle.blocks.proofs.Passed.{Slices, passed}
+use Rattle.blocks.specs.Written.{encode, Slices}
+use Rattle.blocks.proofs.Passed.{passed}
 use Rattle.writer.proofs.Answers.{room, no-room}
 use Rattle.writer.proofs.write.Statement.{statement}
 use Rattle.writer.proofs.write.Tie as tie
