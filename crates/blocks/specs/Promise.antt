@@ -16,28 +16,30 @@ use Rattle.blocks.specs.File.{Whole, Fault}
 use Rattle.blocks.specs.Written.{encode, IsFile}
 
 -- room for 32 words and 252 rules
-pub record Room (a b : List ℕ) : Type 0 where
-  pub words : most-words ≤ wordCount a
-  pub rules : most-rules ≤ ruleCount b
+pub record Room (ws bs : List ℕ) : Type 0 where
+  pub words : most-words ≤ wordCount ws
+  pub rules : most-rules ≤ ruleCount bs
 
 -- the counts of words and rules, and the limit
 abbrev pub problemOf : ℕ → List ℕ → List ℕ → Problem
 problemOf limit ws bs = record { words = wordCount ws; rules = ruleCount bs; limit = limit }
 
 module _ (E : Edition) where
-  -- Reading the file f. The lent words and rules were a and b, and are y and z afterwards
-  pub data Reads (f a b y z : List ℕ) : Reading → Type 0 where
-    size : ¬ (Room a b × Whole E f) → y ≡ a → z ≡ b → Reads f a b y z (Reading.Refused (number SIZE) 0)
-    fault : {n i : ℕ} → Room a b → Whole E f → Fault E f n i → y ≡ a → z ≡ b → Reads f a b y z (Reading.Refused n i)
-    refused : {n i limit : ℕ} {ws bs : List ℕ} → Room a b → IsFile E limit ws bs f → E .judge limit ws bs ≡ Checked.Refused n i → y ≡ a → z ≡ b
-        → Reads f a b y z (Reading.Refused n i)
-    ok : {limit : ℕ} {ws bs : List ℕ} {x : Problem} → Room a b → IsFile E limit ws bs f → E .judge limit ws bs ≡ Checked.Ok
-        → x ≡ problemOf limit ws bs → y ≡ put a 0 ws → z ≡ put b 0 bs → Reads f a b y z (Reading.Ok x)
+  -- Reading a file into the lent words and rules, which are words′ and rules′ afterwards
+  pub data Reads (file words rules words′ rules′ : List ℕ) : Reading → Type 0 where
+    size : ¬ (Room words rules × Whole E file) → words′ ≡ words → rules′ ≡ rules → Reads file words rules words′ rules′ (Reading.Refused (number SIZE) 0)
+    fault : {n i : ℕ} → Room words rules → Whole E file → Fault E file n i → words′ ≡ words → rules′ ≡ rules
+        → Reads file words rules words′ rules′ (Reading.Refused n i)
+    refused : {n i limit : ℕ} {ws bs : List ℕ} → Room words rules → IsFile E limit ws bs file → E .judge limit ws bs ≡ Checked.Refused n i → words′ ≡ words
+        → rules′ ≡ rules
+        → Reads file words rules words′ rules′ (Reading.Refused n i)
+    ok : {limit : ℕ} {ws bs : List ℕ} {x : Problem} → Room words rules → IsFile E limit ws bs file → E .judge limit ws bs ≡ Checked.Ok
+        → x ≡ problemOf limit ws bs → words′ ≡ put words 0 ws → rules′ ≡ put rules 0 bs → Reads file words rules words′ rules′ (Reading.Ok x)
 
-  -- Writing the lent words ws and rules bs with a limit. The lent file was f and is g afterwards
-  pub data Writes (limit : ℕ) (ws bs f g : List ℕ) : Written → Type 0 where
-    size : ¬ (length (encode E limit ws bs) ≤ length f) → g ≡ f → Writes limit ws bs f g (Written.Refused (number SIZE) 0)
-    refused : {n i : ℕ} → length (encode E limit ws bs) ≤ length f → E .judge limit ws bs ≡ Checked.Refused n i → g ≡ f
-        → Writes limit ws bs f g (Written.Refused n i)
-    ok : {k : ℕ} → length (encode E limit ws bs) ≤ length f → E .judge limit ws bs ≡ Checked.Ok
-        → k ≡ length (encode E limit ws bs) → g ≡ put f 0 (encode E limit ws bs) → Writes limit ws bs f g (Written.Ok k)
+  -- Writing the lent words ws and rules bs with a limit into the lent file, which is file′ afterwards
+  pub data Writes (limit : ℕ) (ws bs file file′ : List ℕ) : Written → Type 0 where
+    size : ¬ (length (encode E limit ws bs) ≤ length file) → file′ ≡ file → Writes limit ws bs file file′ (Written.Refused (number SIZE) 0)
+    refused : {n i : ℕ} → length (encode E limit ws bs) ≤ length file → E .judge limit ws bs ≡ Checked.Refused n i → file′ ≡ file
+        → Writes limit ws bs file file′ (Written.Refused n i)
+    ok : {k : ℕ} → length (encode E limit ws bs) ≤ length file → E .judge limit ws bs ≡ Checked.Ok
+        → k ≡ length (encode E limit ws bs) → file′ ≡ put file 0 (encode E limit ws bs) → Writes limit ws bs file file′ (Written.Ok k)

@@ -51,7 +51,7 @@ module _ {limit : ℕ} {ws bs s l : List ℕ} where
   cause-once (caused-by g c q h x) (refused e) = absurd (refused-not-ok e (g .passed))
   cause-once (caused-by g c q h x) (exists-at g′ c′ x′) = absurd (exists-not-cause (named-once limit ws bs c′ c))
   cause-once (caused-by g c q h x) (gave-up-at g′ c′ x′) = absurd (gave-up-not-cause (named-once limit ws bs c′ c))
-  cause-once (caused-by {out = out} g c q h x) (caused-by {out = out′} {s′ = b} g′ c′ q′ h′ x′) =
+  cause-once (caused-by {out = out} g c q h x) (caused-by {out = out′} {list′ = b} g′ c′ q′ h′ x′) =
       let e = named-once limit ws bs c c′ in
       let same : out ≡ out′ = cc in
       (cc, entered-once h (rw (← same) at h′), cleared-once x x′)

@@ -5,7 +5,8 @@ use lib.ListN.{length}
 use Rattle.words.specs.Table.{Table}
 use Rattle.rules.specs.Tight.{Rule}
 use Rattle.search_theory.specs.Search.{Outcome, found, none, gave-up}
-use Rattle.cause_theory.specs.Cause.{Cause, EXISTS, CAUSE, GAVE-UP, trial, Tried, Trims, decided, spared, needed, unknown, Causes, exists, gives-up, trimmed}
+use Rattle.cause_theory.specs.Cause.{Cause, EXISTS, CAUSE, GAVE-UP, trial, Tried, Trims, decided, spared, needed, unknown, Causes, exists, gives-up}
+use Rattle.cause_theory.specs.Cause.{trimmed}
 
 -- what follows a trial: without settings, with settings, or given up
 abbrev pub onTrial : Outcome → (ℕ → Cause) → (ℕ → Cause) → Cause → Cause

@@ -43,7 +43,8 @@ module _ (w : List ℕ) (t : Table) (proper : Proper w t) (xs : List Rule) where
 
 -- ---- all of them, C being the ceiling of each
 
-module _ {w : List ℕ} {rs : List Rule} {limit : ℕ} {t : Table} (proper : Proper w t) (C : List Rule → ℕ) (ceil : (xs : List Rule) → SearchCeiling w t xs (C xs)) where
+module _ {w : List ℕ} {rs : List Rule} {limit : ℕ} {t : Table} (proper : Proper w t) (C : List Rule → ℕ) (ceil : (xs : List Rule)
+    → SearchCeiling w t xs (C xs)) where
   trials-sum : {n c : ℕ} {kept : List ℕ} {x : Cause} (r : Trims w rs limit t n kept c x) → (d : ℕ) (out : List ℕ) → x ≡ CAUSE out d
       → d ≤ c + sumOver C (trials r)
   unfolding trials

@@ -27,7 +27,7 @@ use Rattle.explain.proofs.Answers.{conflict-free, forced-free}
 
 module _ (q : Question) (t : Bounds) {x : Said} (s : Says (shapeIn q) (spanOf t) (placeIn q) (q .bit) (answer x)) (l : List ℕ) where
   pub given-free : x ≡ said.Free → Explanation (shapeIn q) (spanOf t) (placeIn q) (q .bit) l explained.Free l
-  given-free e = record { answer = FREE; out = []; explains = no-reason (rw e at s); told = refl; list = refl }
+  given-free e = record { answer = FREE; out = []; explains = no-reason (rw e at s); told = refl; stands = refl }
 
   module _ {c : ℕ} {m : List ℕ} (r : Reasoned q x t l c m) where
     pub given-conflict : x ≡ said.Conflict → Explanation (shapeIn q) (spanOf t) (placeIn q) (q .bit) l (explained.Conflict c) m
@@ -36,7 +36,7 @@ module _ (q : Question) (t : Bounds) {x : Said} (s : Says (shapeIn q) (spanOf t)
       out = r .out;
       explains = with-reason conflict-free (rw e at s) (rw e at (r .reason));
       told = ap explained.Conflict (r .count);
-      list = r .list;
+      stands = r .list;
     }
 
     pub given-forced : (b : ℕ) → x ≡ said.Forced b → Explanation (shapeIn q) (spanOf t) (placeIn q) (q .bit) l (explained.Forced b c) m
@@ -45,7 +45,7 @@ module _ (q : Question) (t : Bounds) {x : Said} (s : Says (shapeIn q) (spanOf t)
       out = r .out;
       explains = with-reason forced-free (rw e at s) (rw e at (r .reason));
       told = ap (explained.Forced b) (r .count);
-      list = r .list;
+      stands = r .list;
     }
 
 -- a rule that is not there

@@ -18,7 +18,7 @@ given-once : {σ : Shape} {t : Span} {p : Place} {j : ℕ} {l m k : List ℕ} {x
 given-once {l = l} g h =
     let (e, o) = one-explanation (g .explains) (h .explains) in (
       g .told ∙ ap (λ a. given a (length (g .out))) e ∙ ap (λ (w : List ℕ). given (h .answer) (length w)) o ∙ sym (h .told),
-      g .list ∙ ap (λ (w : List ℕ). reasonPut w l) o ∙ sym (h .list),
+      g .stands ∙ ap (λ (w : List ℕ). reasonPut w l) o ∙ sym (h .stands),
     )
 
 module _ {ws bs : List ℕ} {n p j : ℕ} {l : List ℕ} where

@@ -24,7 +24,8 @@ use Rattle.explain.specs.declared.Explained.{Explained}
 use Rattle.explain.specs.declared.Explained.the-variants as explained
 use Rattle.explain.specs.Places.{placeOf}
 use Rattle.explain.specs.Dropping.{reasonPut}
-use Rattle.explain.specs.Promise.{entries, given, Explanation, Tells, tells-conflict, tells-forced, Judged, not-asked, answered, Explaining, refused, judged, explainRefusal, Listing}
+use Rattle.explain.specs.Promise.{entries, given, Explanation, Tells, tells-conflict, tells-forced, Judged, not-asked, answered, Explaining, refused}
+use Rattle.explain.specs.Promise.{judged, explainRefusal, Listing}
 use Rattle.checker.proofs.Rooms.{taken}
 
 -- what tells a reason of c entries is given for no other answer, and with no other count
@@ -52,12 +53,12 @@ module _ {ws bs : List ℕ} {n p j : ℕ} {l : List ℕ} where
   listing {m} {c = c} (judged e (answered a g)) h =
       let (ex, ec) = told-given (g .answer) (length (g .out)) h (g .told) in
       let taken : Taken entries (length l) ws bs = not-refused ws bs l e in
-      let first : take c m ≡ g .out = rw (g .list) (take-at (g .out) _ c ec) in
+      let first : take c m ≡ g .out = rw (g .stands) (take-at (g .out) _ c ec) in
       record {
         legal = rule-legal (taken .problem .table) (taken .problem .each n (rw length-series (a .there)));
         reason = rw (first, ← ex) (g .explains);
         count = ap length first ∙ ec;
-        rest = rw (g .list, ec) (drop-at (g .out) (drop c l) c ec);
+        rest = rw (g .stands, ec) (drop-at (g .out) (drop c l) c ec);
       }
 
   module _ {m : List ℕ} {r : Explained} {x : Answer} {c : ℕ} (e : Explaining ws bs n p j l r m) (h : Tells r x c) where
@@ -94,7 +95,7 @@ told-free FREE k e = refl
 given-free : {σ : Shape} {t : Span} {p : Place} {j : ℕ} {l m : List ℕ} → Explanation σ t p j l explained.Free m → m ≡ l
 given-free {l = l} g =
     let none : g .out ≡ [] = free-reason (rw (told-free (g .answer) (length (g .out)) (g .told)) at (g .explains)) in
-    g .list ∙ ap (λ (w : List ℕ). reasonPut w l) none
+    g .stands ∙ ap (λ (w : List ℕ). reasonPut w l) none
 
 judged-free : {ws bs : List ℕ} {n p j : ℕ} {l m : List ℕ} → Judged ws bs n p j l explained.Free m → m ≡ l
 judged-free (answered a g) = given-free g

@@ -29,7 +29,7 @@ ASK = 10
 
 -- refusal 1 for a list that is too short, then the refusals of the problem
 unfoldable pub explainRefusal : List ℕ → List ℕ → List ℕ → Checked
-explainRefusal ws bs l = withRoom entries (length l) 0 0 (refusal ws bs)
+explainRefusal ws bs list = withRoom entries (length list) 0 0 (refusal ws bs)
 
 -- what comes back for an answer whose reason has c entries
 abbrev pub given : Answer → ℕ → Explained
@@ -42,13 +42,13 @@ pub data Tells : Explained → Answer → ℕ → Type 0 where
   tells-conflict : {c : ℕ} → Tells (explained.Conflict c) CONFLICT c
   tells-forced : {b c : ℕ} → Tells (explained.Forced b c) (FORCED b) c
 
--- the rule of shape σ over the bounds t is explained at bit j of place p: r comes back, and m stands in the list l afterwards
-pub record Explanation (σ : Shape) (t : Span) (p : Place) (j : ℕ) (l : List ℕ) (r : Explained) (m : List ℕ) : Type 0 where
+-- the rule of shape σ over the bounds t is explained at bit j of place p: r comes back, and list′ stands where the list was
+pub record Explanation (σ : Shape) (t : Span) (p : Place) (j : ℕ) (list : List ℕ) (r : Explained) (list′ : List ℕ) : Type 0 where
   pub answer : Answer
   pub out : List ℕ
   pub explains : Explains σ t p j answer out
   pub told : r ≡ given answer (length out)
-  pub list : m ≡ reasonPut out l
+  pub stands : list′ ≡ reasonPut out list
 
 module _ (ws bs : List ℕ) (n p j : ℕ) where
   -- there is a rule n, and bit j of its place p is open in the table as given
@@ -57,19 +57,19 @@ module _ (ws bs : List ℕ) (n p j : ℕ) where
     pub open-bit : OpenBit (shape (widthsOf ws) (rule (rulesOf bs) n)) (span (tableOf ws) (rule (rulesOf bs) n)) p j
 
   -- over a proper problem: refusal 10 where the question names no open bit, else what the rule says of the bit, over the table as given
-  pub data Judged (l : List ℕ) : Explained → List ℕ → Type 0 where
-    not-asked : ¬ AsksOpenBit → Judged l (explained.Refused ASK 0) l
-    answered : {r : Explained} {m : List ℕ} → AsksOpenBit
-        → Explanation (shape (widthsOf ws) (rule (rulesOf bs) n)) (span (tableOf ws) (rule (rulesOf bs) n)) (placeOf p) j l r m → Judged l r m
+  pub data Judged (list : List ℕ) : Explained → List ℕ → Type 0 where
+    not-asked : ¬ AsksOpenBit → Judged list (explained.Refused ASK 0) list
+    answered : {r : Explained} {list′ : List ℕ} → AsksOpenBit
+        → Explanation (shape (widthsOf ws) (rule (rulesOf bs) n)) (span (tableOf ws) (rule (rulesOf bs) n)) (placeOf p) j list r list′ → Judged list r list′
 
-  -- words ws, rules bs and the list l were lent; r comes back, and m stands in the list afterwards
-  pub data Explaining (l : List ℕ) : Explained → List ℕ → Type 0 where
-    refused : {number place : ℕ} → explainRefusal ws bs l ≡ Refused number place → Explaining l (explained.Refused number place) l
-    judged : {r : Explained} {m : List ℕ} → explainRefusal ws bs l ≡ Ok → Judged l r m → Explaining l r m
+  -- words ws, rules bs and a list were lent; r comes back, and list′ stands in the list afterwards
+  pub data Explaining (list : List ℕ) : Explained → List ℕ → Type 0 where
+    refused : {number place : ℕ} → explainRefusal ws bs list ≡ Refused number place → Explaining list (explained.Refused number place) list
+    judged : {r : Explained} {list′ : List ℕ} → explainRefusal ws bs list ≡ Ok → Judged list r list′ → Explaining list r list′
 
 -- the first c numbers of the list are the reason, and the others are as they were
-pub record Listing (σ : Shape) (t : Span) (p : Place) (j : ℕ) (x : Answer) (c : ℕ) (l m : List ℕ) : Type 0 where
+pub record Listing (σ : Shape) (t : Span) (p : Place) (j : ℕ) (x : Answer) (c : ℕ) (list list′ : List ℕ) : Type 0 where
   pub legal : Legal σ t
-  pub reason : Explains σ t p j x (take c m)
-  pub count : length (take c m) ≡ c
-  pub rest : drop c m ≡ drop c l
+  pub reason : Explains σ t p j x (take c list′)
+  pub count : length (take c list′) ≡ c
+  pub rest : drop c list′ ≡ drop c list

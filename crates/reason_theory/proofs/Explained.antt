@@ -10,7 +10,8 @@ use Rattle.rules.specs.Kinds.{Place}
 use Rattle.rules.specs.Meaning.{Shape}
 use Rattle.rules.specs.Fits.{Span, Uses, Legal}
 use Rattle.reason_theory.specs.Says.{Answer, CONFLICT, FORCED, FREE, Says}
-use Rattle.reason_theory.specs.Reason.{Spot, spot, entry, cleared, filled, placed, opened, Reason, all-seen, dropped, kept, fixedBit, fixedFrom, fixedAt, fixedOf, Explains, no-reason, with-reason}
+use Rattle.reason_theory.specs.Reason.{Spot, spot, entry, cleared, filled, placed, opened, Reason, all-seen, dropped, kept, fixedBit, fixedFrom}
+use Rattle.reason_theory.specs.Reason.{fixedAt, fixedOf, Explains, no-reason, with-reason}
 use Rattle.reason_theory.proofs.Opened.{opened-legal}
 use Rattle.reason_theory.proofs.Rising.{Rising, no-more, next, fixed-rising}
 use Rattle.reason_theory.proofs.Answered.{answerOf, answer-right, answer-only, sameb, same-sound, same-refl}

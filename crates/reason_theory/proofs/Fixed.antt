@@ -15,7 +15,8 @@ use Rattle.rules.specs.Rows.{uses}
 use Rattle.rules.specs.Meaning.{Shape}
 use Rattle.rules.specs.Fits.{Span}
 use Rattle.reason_theory.specs.Says.{Answer}
-use Rattle.reason_theory.specs.Reason.{Spot, spot, entry, Reason, all-seen, dropped, kept, Fixed, fixedBit, fixedFrom, fixedAt, fixedOf, Explains, no-reason, with-reason}
+use Rattle.reason_theory.specs.Reason.{Spot, spot, entry, Reason, all-seen, dropped, kept, Fixed, fixedBit, fixedFrom, fixedAt, fixedOf, Explains}
+use Rattle.reason_theory.specs.Reason.{no-reason, with-reason}
 use Rattle.reason_theory.specs.Alone.{listed}
 
 module _ (t : Span) (p : Place) where

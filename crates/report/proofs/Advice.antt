@@ -26,7 +26,7 @@ always-lines lent (lines g x p c) e = let z : _≡_ {A = ℕ} 0 1 = cc in omega 
 pub lines-advice : {f out work out′ work′ : List ℕ} {r : Advised} {e : ℕ} → Lent out work → Advises f out work r out′ work′ → r ≡ answer.Lines e
     → Advice f (take e out′) × Cleared work work′
 lines-advice lent (size h) q = absurd (h lent)
-lines-advice {out = out} {e = e} lent (lines {x = x} {m = out′} {e = d} g reports p c) q =
+lines-advice {out = out} {e = e} lent (lines {x = x} {out′ = out′} {e = d} g reports p c) q =
     let same : d ≡ e = cc in
     let text : take e out′ ≡ textOf x = ap (take e) (p .text) ∙ take-at (textOf x) (drop (length (textOf x)) out) e (sym (p .ends) ∙ same) in
     (record { report = x; reports = reports; text = text }, c)

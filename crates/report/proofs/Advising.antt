@@ -20,7 +20,7 @@ pub short-bytes : (f l k : List ℕ) → length l < most → Advises f l k (answ
 short-bytes f l k h = size (λ x. omega (arith, x .bytes))
 
 pub short-work : (f l k : List ℕ) → length k < causeWork → Advises f l k (answer.Refused 1 0) l k
-short-work f l k h = size (λ x. omega (arith, x .work))
+short-work f l k h = size (λ x. omega (arith, x .memory))
 
 module _ {f y z : List ℕ} where
   refused-so : {n i : ℕ} → Reads edition1 f noWords noRules y z (Reading.Refused n i) → Reports f (refused n i)

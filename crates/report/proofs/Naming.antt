@@ -27,7 +27,7 @@ pub trials-asked : {limit g : ℕ} {ws bs l k : List ℕ} (s : List ℕ) → len
     → NoneFirst limit ws bs s k g
 trials-asked {limit} {g} {ws} {bs} {l} {k} s size asked comes =
     let f = ok-fine limit ws bs (asked .fine) in
-    record { given = nothing-refused limit ws bs s k (asked .lent .work) (omega (arith, f .sized .rules)) (asked .fine); nothing = comes }
+    record { given = nothing-refused limit ws bs s k (asked .lent .memory) (omega (arith, f .sized .rules)) (asked .fine); nothing = comes }
 
 entered-take : {out s s′ : List ℕ} → Entered out s s′ → take (length out) s′ ≡ out
 entered-take {out} {s} {s′} x =

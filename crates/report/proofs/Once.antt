@@ -15,7 +15,8 @@ use Rattle.blocks.proofs.ReadBack.{one-problem}
 use Rattle.blocks.proofs.Promise.{read-once}
 use Rattle.report.specs.declared.Advised.{Advised}
 use Rattle.report.specs.Text.{Report}
-use Rattle.report.specs.Promise.{ReportOf, found-first, none-named, none-unnamed, gave-up-at, noWords, noRules, Reports, unread, answered, Advises, size, lines}
+use Rattle.report.specs.Promise.{ReportOf, found-first, none-named, none-unnamed, gave-up-at, noWords, noRules, Reports, unread, answered, Advises}
+use Rattle.report.specs.Promise.{size, lines}
 
 module _ (limit : ℕ) (ws bs : List ℕ) where
   answers-once : {x y : Report} → ReportOf limit ws bs x → ReportOf limit ws bs y → x ≡ y

@@ -9,7 +9,8 @@ use Rattle.decimal.specs.Text.{decimal, spaced}
 use Rattle.decimal.specs.Putting.{Appended}
 use Rattle.decimal.proofs.Appends.{appended-both}
 use Rattle.lists.proofs.Pieces.{flat-same}
-use Rattle.report.specs.Text.{items, line, SAT, UNSAT, UNKNOWN, CAUSE-WORD, REFUSED, wordLine, causeLine, wordLines, textOf, ToldCause, named, unnamed, sat, unsat, unknown, refused}
+use Rattle.report.specs.Text.{items, line, SAT, UNSAT, UNKNOWN, CAUSE-WORD, REFUSED, wordLine, causeLine, wordLines, textOf, ToldCause, named, unnamed}
+use Rattle.report.specs.Text.{sat, unsat, unknown, refused}
 use Rattle.report.specs.Printed.{Printed}
 use Rattle.report.proofs.Puts.{spaced-items, pieces-end, printed}
 

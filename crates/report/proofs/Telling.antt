@@ -43,7 +43,7 @@ valued {limit} {ws} {bs} m size asked =
 
 -- the memory cleared, a report is asked for and told as before
 pub asked-after : {limit : ℕ} {ws bs l k n : List ℕ} → ToReport limit ws bs l k → Cleared k n → ToReport limit ws bs l n
-asked-after a c = record { lent = record { bytes = a .lent .bytes; work = omega (arith, a .lent .work, c .size) }; fine = a .fine }
+asked-after a c = record { lent = record { bytes = a .lent .bytes; memory = omega (arith, a .lent .memory, c .size) }; fine = a .fine }
 
 pub told-after : {limit e : ℕ} {ws bs l k n l′ n′ : List ℕ} → Cleared k n → Told limit ws bs l n e l′ n′ → Told limit ws bs l k e l′ n′
 told-after c (told a p d) = told a p (record { size = d .size ∙ c .size; zeros = d .zeros })
@@ -79,5 +79,5 @@ module _ {limit : ℕ} {ws bs m k : List ℕ} where
 
     pub never-refused : {a b : ℕ} {l : List ℕ} → r ≡ solved.Refused a b → ToReport limit ws bs l k → length m ≡ 32 → ⊥
     never-refused q asked size =
-        let work = asked .lent .work in
+        let work = asked .lent .memory in
         not-refused (rw q at s) (nothing-refused limit ws bs m k (omega arith) (valued m size asked .there) (asked .fine))

@@ -10,10 +10,10 @@ use Rattle.report.specs.Text.{Report, textOf}
 abbrev pub most : ℕ
 most = 2304
 
--- l was lent and is m afterwards, and e comes back: the report's lines stand in front, e is their length, and the rest stays as it was
-pub record Printed (x : Report) (l m : List ℕ) (e : ℕ) : Type 0 where
+-- out was lent and is out′ afterwards, and e comes back: the report's lines stand in front, e is their length, and the rest stays as it was
+pub record Printed (x : Report) (out out′ : List ℕ) (e : ℕ) : Type 0 where
   pub ends : e ≡ length (textOf x)
-  pub text : m ≡ textOf x ++ drop (length (textOf x)) l
+  pub text : out′ ≡ textOf x ++ drop (length (textOf x)) out
 
 -- the lent words have widths of at most 64, are at most 32, and each has a value
 pub record Valued (ws values : List ℕ) : Type 0 where

@@ -22,9 +22,9 @@ use Rattle.report.specs.Text.{Report, sat, unsat, named, unnamed, unknow
 use Rattle.report.specs.Printed.{most, Printed}
 
 -- enough bytes and, as for a cause, enough work memory were lent
-pub record Lent (l k : List ℕ) : Type 0 where
-  pub bytes : most ≤ length l
-  pub work : causeWork ≤ length k
+pub record Lent (out work : List ℕ) : Type 0 where
+  pub bytes : most ≤ length out
+  pub memory : causeWork ≤ length work
 
 -- what a problem's own search and, after NONE, the procedure for its cause come to
 pub data ReportOf (limit : ℕ) (ws bs : List ℕ) : Report → Type 0 where
@@ -36,13 +36,13 @@ pub data ReportOf (limit : ℕ) (ws bs : List ℕ) : Report → Type 0 where
   gave-up-at : Comes limit ws bs gave-up → ReportOf limit ws bs (unknown limit)
 
 -- a problem without refusals, with enough lent
-pub record ToReport (limit : ℕ) (ws bs l k : List ℕ) : Type 0 where
-  pub lent : Lent l k
+pub record ToReport (limit : ℕ) (ws bs out work : List ℕ) : Type 0 where
+  pub lent : Lent out work
   pub fine : edition1 .judge limit ws bs ≡ Checked.Ok
 
--- a problem's report stands in bytes m, which were l, and has e of them; work memory, which was k, is n, all 0
-pub data Told (limit : ℕ) (ws bs l k : List ℕ) (e : ℕ) (m n : List ℕ) : Type 0 where
-  told : {x : Report} → ReportOf limit ws bs x → Printed x l m e → Cleared k n → Told limit ws bs l k e m n
+-- a problem's report stands in bytes out′, which were out, and has e of them; work memory is all 0
+pub data Told (limit : ℕ) (ws bs out work : List ℕ) (e : ℕ) (out′ work′ : List ℕ) : Type 0 where
+  told : {x : Report} → ReportOf limit ws bs x → Printed x out out′ e → Cleared work work′ → Told limit ws bs out work e out′ work′
 
 -- memory for 32 words and for 252 rules
 abbrev pub noWords : List ℕ
@@ -57,7 +57,8 @@ pub data Reports (f : List ℕ) : Report → Type 0 where
   answered : {limit : ℕ} {ws bs : List ℕ} {x : Report} → IsFile edition1 limit ws bs f → edition1 .judge limit ws bs ≡ Checked.Ok → ReportOf limit ws bs x
       → Reports f x
 
--- bytes l and work memory k were lent with the file f; the answer is r, and m and n stand in bytes and memory afterwards
-pub data Advises (f l k : List ℕ) : Advised → List ℕ → List ℕ → Type 0 where
-  size : ¬ Lent l k → Advises f l k (answer.Refused (number SIZE) 0) l k
-  lines : {x : Report} {m n : List ℕ} {e : ℕ} → Lent l k → Reports f x → Printed x l m e → Cleared k n → Advises f l k (answer.Lines e) m n
+-- bytes out and work memory were lent with the file f; out′ and work′ stand there afterwards
+pub data Advises (f out work : List ℕ) : Advised → List ℕ → List ℕ → Type 0 where
+  size : ¬ Lent out work → Advises f out work (answer.Refused (number SIZE) 0) out work
+  lines : {x : Report} {out′ work′ : List ℕ} {e : ℕ} → Lent out work → Reports f x → Printed x out out′ e → Cleared work work′
+      → Advises f out work (answer.Lines e) out′ work′

@@ -15,7 +15,8 @@ use Rattle.rules.specs.Rows.{uses, Fitting}
 use Rattle.rules.specs.Meaning.{result, Compares}
 use Rattle.rules.specs.SmtLib.{Vector, OfSize, Equal, if_then_else_, bv2nat, concat, bvnot, bvand, denoted, Denoted}
 use Rattle.rules.proofs.SmtLibNumbers.{bv2nat-bits, bv2nat-equal, bv2nat-lt, nat2bv-sized}
-use Rattle.rules.proofs.SmtLibKinds.{copy-smtlib, not-smtlib, and-smtlib, or-smtlib, xor-smtlib, add-smtlib, ite-smtlib, slice-smtlib, join-smtlib, shl-smtlib, shr-smtlib}
+use Rattle.rules.proofs.SmtLibKinds.{copy-smtlib, not-smtlib, and-smtlib, or-smtlib, xor-smtlib, add-smtlib, ite-smtlib, slice-smtlib, join-smtlib}
+use Rattle.rules.proofs.SmtLibKinds.{shl-smtlib, shr-smtlib}
 
 pub result-smtlib : (o : Op) (w : Place → ℕ) (k a b s : ℕ) → Fitting (op o) w k → a < 2 ^ w A → (T (uses (op o) B) → b < 2 ^ w B)
     → (T (uses (op o) S) → s < 2 ^ w S) → result o w k a b s ≡ bv2nat (w R) (denoted o w k (bit a) (bit b) (bit s))

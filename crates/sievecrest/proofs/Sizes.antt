@@ -45,7 +45,8 @@ use Rattle.report.specs.Printed.{most}
 use Rattle.report.specs.Promise as Report
 use Rattle.report.proofs.Advising.{lines-within}
 use Rattle.packing.specs.Packed.{parts, Within, checked, tightened, solved, explained, caused, read, written, advised, SmallRefusal}
-use Rattle.sievecrest.proofs.Refusals.{check-refused, tighten-refused, solve-refused, explain-refused, cause-refused, read-refused, write-refused, advise-refused}
+use Rattle.sievecrest.proofs.Refusals.{check-refused, tighten-refused, solve-refused, explain-refused, cause-refused, read-refused, write-refused}
+use Rattle.sievecrest.proofs.Refusals.{advise-refused}
 
 within : (n c m : ℕ) → n < 256 → c < 4294967296 → m < 16777216 → Within (parts n c m)
 within n c m a b d = record { number = a; count = b; more = d }

@@ -24,10 +24,10 @@ module _ (l : List ℕ) (n : ℕ) (is : n ≡ min (length l) most) where
   printed-wider {x} h p = record { ends = p .ends; text = ap (λ y. y ++ drop n l) (p .text) ∙ rest-after (textOf x) (omega (arith, p .ends)) }
 
   lent-first : {k : List ℕ} → Lent l k → Lent (take n l) k
-  lent-first h = record { bytes = omega (arith, first-length, h .bytes); work = h .work }
+  lent-first h = record { bytes = omega (arith, first-length, h .bytes); memory = h .memory }
 
   lent-all : {k : List ℕ} → Lent (take n l) k → Lent l k
-  lent-all h = record { bytes = omega (arith, first-length, h .bytes); work = h .work }
+  lent-all h = record { bytes = omega (arith, first-length, h .bytes); memory = h .memory }
 
   pub advise-wider : {f k m j : List ℕ} {r : Advised} → length m ≡ n → Advises f (take n l) k r m j → Advises f l k r (m ++ drop n l) j
   advise-wider h (size d) = rw (take-append-drop n l) (size (λ x. d (lent-first x)))

@@ -25,7 +25,8 @@ use Rattle.search_theory.proofs.Problem.{outcome-right, gave-up-just, conflict-
 use Rattle.search_theory.proofs.TheCeiling.{count-ceiling, ceiling-reached}
 use Rattle.solve.specs.declared.Solved.{Solved}
 use Rattle.solve.specs.declared.Solved.the-variants as answer
-use Rattle.solve.specs.Promise.{solveRefusal, Comes, Solving, refused, found-first, found-none, gave-up-at, Answered, reached-found, reached-none, not-reached, SolveGiven}
+use Rattle.solve.specs.Promise.{solveRefusal, Comes, Solving, refused, found-first, found-none, gave-up-at, Answered, reached-found, reached-none}
+use Rattle.solve.specs.Promise.{not-reached, SolveGiven}
 use Rattle.solve.proofs.Calling.{model-room, fine}
 use Rattle.solve.proofs.Once.{comes-once}
 

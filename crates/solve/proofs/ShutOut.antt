@@ -24,7 +24,8 @@ use Rattle.solve.specs.Promise.{solveWork, Comes, Solving, refused, foun
 use Rattle.solve.proofs.Calling.{fine, nothing-refused}
 
 -- an outcome of a given problem is the one computed
-only : {limit : ℕ} {ws bs m l : List ℕ} → SolveGiven limit ws bs m l → (o : Outcome) → Comes limit ws bs o → o ≡ solved (widthsOf ws) (rulesOf bs) limit (tableOf ws)
+only : {limit : ℕ} {ws bs m l : List ℕ} → SolveGiven limit ws bs m l → (o : Outcome) → Comes limit ws bs o
+    → o ≡ solved (widthsOf ws) (rulesOf bs) limit (tableOf ws)
 only {limit} {ws} {bs} g o s =
     one-outcome (Tight (widthsOf ws) (rulesOf bs)) limit s (solved-right (widthsOf ws) (rulesOf bs) (tableOf ws) (fine g .problem .table) limit)
 

@@ -21,29 +21,32 @@ solveWork = 4608
 
 -- refusal 1 for memory or a model that is too short, then the refusals of the problem and its limit
 unfoldable pub solveRefusal : ℕ → List ℕ → List ℕ → List ℕ → List ℕ → Checked
-solveRefusal limit ws bs model l = withRoom solveWork (length l) (wordCount ws) (length model) (refusalWith limit ws bs)
+solveRefusal limit ws bs model work = withRoom solveWork (length work) (wordCount ws) (length model) (refusalWith limit ws bs)
 
 -- nothing is refused
-pub record SolveGiven (limit : ℕ) (ws bs model l : List ℕ) : Type 0 where
-  pub passed : solveRefusal limit ws bs model l ≡ Ok
+pub record SolveGiven (limit : ℕ) (ws bs model work : List ℕ) : Type 0 where
+  pub passed : solveRefusal limit ws bs model work ≡ Ok
 
--- the first n numbers of v stand in the model m′, which else is as m
-pub record Stored (n : ℕ) (v m m′ : List ℕ) : Type 0 where
-  pub size : length m′ ≡ length m
-  pub each : (i : ℕ) → i < n → at m′ i ≡ at v i
-  pub rest : (i : ℕ) → n ≤ i → at m′ i ≡ at m i
+-- the first n numbers of v stand in model′, which else is as model
+pub record Stored (n : ℕ) (v model model′ : List ℕ) : Type 0 where
+  pub size : length model′ ≡ length model
+  pub each : (i : ℕ) → i < n → at model′ i ≡ at v i
+  pub rest : (i : ℕ) → n ≤ i → at model′ i ≡ at model i
 
 -- the published search of the lent problem comes to an outcome
 abbrev pub Comes : ℕ → List ℕ → List ℕ → Outcome → Type 0
 Comes limit ws bs o = Search (Tight (widthsOf ws) (rulesOf bs)) limit (tableOf ws) 0 o
 
--- words ws, rules bs, a limit, a model m and work memory l were lent; the answer is x, and m′ and l′ stand in model and memory afterwards
-pub data Solving (limit : ℕ) (ws bs m l : List ℕ) : Solved → List ℕ → List ℕ → Type 0 where
-  refused : {n p : ℕ} → solveRefusal limit ws bs m l ≡ Refused n p → Solving limit ws bs m l (answer.Refused n p) m l
-  found-first : {v m′ l′ : List ℕ} {g : ℕ} → SolveGiven limit ws bs m l → Comes limit ws bs (found v g) → Stored (wordCount ws) v m m′ → Cleared l l′
-      → Solving limit ws bs m l (answer.Found g) m′ l′
-  found-none : {l′ : List ℕ} {g : ℕ} → SolveGiven limit ws bs m l → Comes limit ws bs (none g) → Cleared l l′ → Solving limit ws bs m l (answer.Nothing g) m l′
-  gave-up-at : {l′ : List ℕ} → SolveGiven limit ws bs m l → Comes limit ws bs gave-up → Cleared l l′ → Solving limit ws bs m l (answer.GaveUp limit) m l′
+-- words ws, rules bs, a limit, a model and work memory were lent; the answer comes back, and model′ and work′ stand in model and memory afterwards
+pub data Solving (limit : ℕ) (ws bs model work : List ℕ) : Solved → List ℕ → List ℕ → Type 0 where
+  refused : {n p : ℕ} → solveRefusal limit ws bs model work ≡ Refused n p → Solving limit ws bs model work (answer.Refused n p) model work
+  found-first : {v model′ work′ : List ℕ} {g : ℕ} → SolveGiven limit ws bs model work → Comes limit ws bs (found v g)
+      → Stored (wordCount ws) v model model′ → Cleared work work′
+      → Solving limit ws bs model work (answer.Found g) model′ work′
+  found-none : {work′ : List ℕ} {g : ℕ} → SolveGiven limit ws bs model work → Comes limit ws bs (none g) → Cleared work work′
+      → Solving limit ws bs model work (answer.Nothing g) model work′
+  gave-up-at : {work′ : List ℕ} → SolveGiven limit ws bs model work → Comes limit ws bs gave-up → Cleared work work′
+      → Solving limit ws bs model work (answer.GaveUp limit) model work′
 
 -- settings of the lent problem, the first of them; and that there are none
 abbrev pub FirstSettings : List ℕ → List ℕ → List ℕ → Type 0

@@ -121,7 +121,8 @@ put-bounds l ws most room = record {
     same : wordCount (putBounds (wordCount ws) l ws) ≡ wordCount ws
     same = ap (λ n. n / stride) (put-length (wordCount ws) l ws)
 
-module _ {ws bs k l m n p : List ℕ} (given : Taken tightenWork (length k) ws bs) (x : Loaded (wordCount ws) ws k l) (y : Numbered (ruleCount bs) l m) (z : Cleared n p) where
+module _ {ws bs k l m n p : List ℕ} (given : Taken tightenWork (length k) ws bs) (x : Loaded (wordCount ws) ws k l) (y : Numbered (ruleCount bs) l m)
+    (z : Cleared n p) where
   -- the memory that is cleared is as long as the one that was lent
   kept : length n ≡ length m → Cleared k p
   kept e = record { size = z .size ∙ e ∙ y .size ∙ x .size; zeros = z .zeros }
@@ -149,7 +150,8 @@ module _ {ws bs l : List ℕ} where
   unfolding tightenRefusal
   problem-refused h e = refused (roomy tightenWork (length l) 0 0 (refusal ws bs) h (omega arith) ∙ e)
 
-  pub ended-answer : {vs m : List ℕ} {r : Bool} → tightenWork ≤ length l → refusal ws bs ≡ Ok → TightenEnds ws bs l r vs m → Tightening ws bs l (answerOf r) vs m
+  pub ended-answer : {vs m : List ℕ} {r : Bool} → tightenWork ≤ length l → refusal ws bs ≡ Ok → TightenEnds ws bs l r vs m
+      → Tightening ws bs l (answerOf r) vs m
   unfolding tightenRefusal
   ended-answer h e (ended-tight x b c) = tight (roomy tightenWork (length l) 0 0 (refusal ws bs) h (omega arith) ∙ e) x b c
   ended-answer h e (ended-conflict x c) = conflict (roomy tightenWork (length l) 0 0 (refusal ws bs) h (omega arith) ∙ e) x c

@@ -35,10 +35,10 @@ pub record Numbered (c : ℕ) (l m : List ℕ) : Type 0 where
   pub each : (j : ℕ) → j < c → at m (64 + j) ≡ j
   pub rest : (i : ℕ) → i < 64 → at m i ≡ at l i
 
--- m is all 0, and as long as l
-pub record Cleared (l m : List ℕ) : Type 0 where
-  pub size : length m ≡ length l
-  pub zeros : (i : ℕ) → at m i ≡ 0
+-- work′ is all 0, and as long as work
+pub record Cleared (work work′ : List ℕ) : Type 0 where
+  pub size : length work′ ≡ length work
+  pub zeros : (i : ℕ) → at work′ i ≡ 0
 
 -- the words ws with the bounds of the first n from memory l
 unfoldable pub putBounds : ℕ → List ℕ → List ℕ → List ℕ

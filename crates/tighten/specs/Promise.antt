@@ -21,24 +21,25 @@ tightenWork = 320
 
 -- refusal 1 for work memory that is too short, then the refusals of the problem
 unfoldable pub tightenRefusal : List ℕ → List ℕ → List ℕ → Checked
-tightenRefusal ws bs l = withRoom tightenWork (length l) 0 0 (refusal ws bs)
+tightenRefusal ws bs work = withRoom tightenWork (length work) 0 0 (refusal ws bs)
 
--- the words vs are the words ws with the bounds of table u
-pub record WithBounds (ws vs : List ℕ) (u : Table) : Type 0 where
-  pub size : length vs ≡ length ws
-  pub widths : widthsOf vs ≡ widthsOf ws
-  pub table : tableOf vs ≡ u
+-- the words ws′ are the words ws with the bounds of table u
+pub record WithBounds (ws ws′ : List ℕ) (u : Table) : Type 0 where
+  pub size : length ws′ ≡ length ws
+  pub widths : widthsOf ws′ ≡ widthsOf ws
+  pub table : tableOf ws′ ≡ u
 
 -- what it comes to then
-pub data TightenEnds (ws bs l : List ℕ) : Bool → List ℕ → List ℕ → Type 0 where
-  ended-tight : {u : Table} {vs m : List ℕ} → Widest (Tight (widthsOf ws) (rulesOf bs)) (tableOf ws) u → WithBounds ws vs u → Cleared l m
-      → TightenEnds ws bs l true vs m
-  ended-conflict : {m : List ℕ} → Conflict (Tight (widthsOf ws) (rulesOf bs)) (tableOf ws) → Cleared l m → TightenEnds ws bs l false ws m
+pub data TightenEnds (ws bs work : List ℕ) : Bool → List ℕ → List ℕ → Type 0 where
+  ended-tight : {u : Table} {ws′ work′ : List ℕ} → Widest (Tight (widthsOf ws) (rulesOf bs)) (tableOf ws) u → WithBounds ws ws′ u → Cleared work work′
+      → TightenEnds ws bs work true ws′ work′
+  ended-conflict : {work′ : List ℕ} → Conflict (Tight (widthsOf ws) (rulesOf bs)) (tableOf ws) → Cleared work work′ → TightenEnds ws bs work false ws work′
 
--- words ws, rules bs and work memory l were lent; the answer is x, and vs and m stand in words and memory afterwards
-pub data Tightening (ws bs l : List ℕ) : Answer → List ℕ → List ℕ → Type 0 where
-  refused : {n p : ℕ} → tightenRefusal ws bs l ≡ Refused n p → Tightening ws bs l (answer.Refused n p) ws l
-  tight : {u : Table} {vs m : List ℕ} → tightenRefusal ws bs l ≡ Ok → Widest (Tight (widthsOf ws) (rulesOf bs)) (tableOf ws) u → WithBounds ws vs u → Cleared l m
-      → Tightening ws bs l answer.Tight vs m
-  conflict : {m : List ℕ} → tightenRefusal ws bs l ≡ Ok → Conflict (Tight (widthsOf ws) (rulesOf bs)) (tableOf ws) → Cleared l m
-      → Tightening ws bs l answer.Conflict ws m
+-- words ws, rules bs and work memory were lent; the answer comes back, and ws′ and work′ stand in words and memory afterwards
+pub data Tightening (ws bs work : List ℕ) : Answer → List ℕ → List ℕ → Type 0 where
+  refused : {n p : ℕ} → tightenRefusal ws bs work ≡ Refused n p → Tightening ws bs work (answer.Refused n p) ws work
+  tight : {u : Table} {ws′ work′ : List ℕ} → tightenRefusal ws bs work ≡ Ok → Widest (Tight (widthsOf ws) (rulesOf bs)) (tableOf ws) u
+      → WithBounds ws ws′ u → Cleared work work′
+      → Tightening ws bs work answer.Tight ws′ work′
+  conflict : {work′ : List ℕ} → tightenRefusal ws bs work ≡ Ok → Conflict (Tight (widthsOf ws) (rulesOf bs)) (tableOf ws) → Cleared work work′
+      → Tightening ws bs work answer.Conflict ws work′

@@ -14,7 +14,7 @@ use Rattle.report.proofs.advise.Tie as tie
 
 -- enough was lent
 lent : (c : tie.Else2) → Lent (now (c .before .before .before .before .before .args .out)) (now (c .before .before .before .before .before .args .work))
-lent c = record { bytes = omega (arith, c .before .if1 .left); work = omega (arith, c .if2 .left) }
+lent c = record { bytes = omega (arith, c .before .if1 .left); memory = omega (arith, c .if2 .left) }
 
 -- at most 32 words and 252 rules were read, and they stand in what was lent for them
 fewer : (c : tie.After-x) → (c .x .given .0 .0 .words ≤ 32) × (c .x .given .0 .0 .rules ≤ 252)
