@@ -1,4 +1,4 @@
--- What comes of reading: at most as many bytes as there is room for.
+-- Mirrors code: what comes of reading: at most as many bytes as there is room for.
 use mathlib.Core.List.{List}
 use Prim.Native.Nat.{ℕ, _≤_}
 use lib.ListN.{length}

@@ -1,4 +1,4 @@
--- A block by itself: its sum, its edition, its number, its count and its zeros.
+-- To be believed: a block by itself: its sum, its edition, its number, its count and its zeros.
 use mathlib.Core.Path.{_≡_}
 use mathlib.Core.List.{List}
 use Prim.Native.Nat.{ℕ, _+_, _*_, _%_, _<_, _≤_}

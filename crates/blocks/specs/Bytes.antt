@@ -1,4 +1,4 @@
--- Bytes: little-endian numbers, parts of a list, pieces one after the other, and numbers added up.
+-- To be believed: little-endian numbers, as bytes.
 use mathlib.Core.List.{List, [], _∷_, _++_}
 use Prim.Native.Nat.{ℕ, zero, suc, _+_, _*_, _/_, _%_, _<_}
 

@@ -1,4 +1,4 @@
--- Where the numbers of a problem stand in a file of edition 1. A block has room for 63 items of eight bytes: three make a word, one a rule.
+-- To be believed: where the numbers of a problem stand in a file of edition 1. A block has room for 63 items of eight bytes: three make a word, one a rule.
 use mathlib.Core.List.{List}
 use Prim.Native.Nat.{ℕ, _+_, _*_, _/_, _%_}
 use Rattle.lists.specs.Lists.{at, series, part}

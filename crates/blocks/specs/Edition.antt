@@ -1,4 +1,4 @@
--- What an edition of block files fixes: its number, the form of its records, how many blocks a file may have, and what refuses a problem.
+-- To be believed: what an edition of block files fixes: its number, the form of its records, how many blocks a file may have, and what refuses a problem.
 -- Everything else in this crate holds of any edition whose records fit their blocks.
 use mathlib.Core.List.{List}
 use Prim.Native.Nat.{ℕ}

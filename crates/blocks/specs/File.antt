@@ -1,4 +1,4 @@
--- The order of blocks: a proper file, how files begin, and the first block at fault.
+-- To be believed: the order of blocks: a proper file, how files begin, and the first block at fault.
 use mathlib.Core.Path.{_≡_}
 use mathlib.Core.List.{List}
 use Prim.Native.Nat.{ℕ, suc, _+_, _*_, _/_, _%_, _<_, _≤_}

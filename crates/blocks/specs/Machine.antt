@@ -1,4 +1,4 @@
--- The reader's machine over blocks. Its state is how many words and rules there were so far.
+-- Mirrors code: the reader's machine over blocks. Its state is how many words and rules there were so far.
 use mathlib.Core.Path.{_≡_}
 use mathlib.Core.List.{List}
 use Prim.Native.Nat.{ℕ, suc, _+_, _%_, _≤_}

@@ -1,4 +1,4 @@
--- What reading and writing promise: the answer, its place and every lent number afterwards, on each input.
+-- To be believed: what reading and writing promise: the answer, its place and every lent number afterwards, on each input.
 use mathlib.Core.Path.{_≡_}
 use mathlib.Core.List.{List}
 use Prim.Native.Nat.{ℕ, _≤_}

@@ -1,4 +1,4 @@
--- Word records and rule records: the bytes of the lent numbers that stand for a word or a rule.
+-- To be believed: word records and rule records: the bytes of the lent numbers that stand for a word or a rule.
 use mathlib.Core.List.{List, _∷_, _++_}
 use Prim.Native.Nat.{ℕ}
 use Rattle.rules.specs.Tight.{Rule}

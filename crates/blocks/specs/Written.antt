@@ -1,4 +1,4 @@
--- The file of a problem, byte by byte.
+-- To be believed: the file of a problem, byte by byte.
 use mathlib.Core.Path.{_≡_}
 use mathlib.Core.List.{List, _∷_, _++_}
 use Prim.Native.Nat.{ℕ, _+_, _*_, _/_, _%_, _^_, _<_, min, _-_}

@@ -1,4 +1,4 @@
--- The starred boards of the product's paper, A to K, as one table. Where the paper names no limit, it is the greatest, 1,000,000.
+-- To be believed: the starred boards of the product's paper, A to K, as one table. Where the paper names no limit, it is the greatest, 1,000,000.
 use mathlib.Core.List.{List, [], _∷_}
 use Prim.Native.Nat.{ℕ, _^_, _-_}
 use Rattle.rules.specs.Kinds.{A, B}

@@ -1,4 +1,4 @@
--- What the adviser program prints for the files of boards G and H, as the paper has it, and what it means that `advise` puts such lines.
+-- To be believed: what the adviser program prints for the files of boards G and H, as the paper has it, and what it means that `advise` puts such lines.
 use mathlib.Core.Path.{_≡_}
 use mathlib.Core.List.{List, [], _∷_, _++_}
 use Prim.Native.Nat.{ℕ}

@@ -1,4 +1,4 @@
--- A row of the table of boards, and what it says.
+-- To be believed: a row of the table of boards, and what it says.
 use mathlib.Core.Path.{_≡_}
 use mathlib.Core.List.{List, [], _∷_}
 use Prim.Native.Nat.{ℕ, _<_}

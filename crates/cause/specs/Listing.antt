@@ -1,4 +1,4 @@
--- The list of rule numbers in work memory, from number 64 on: those not decided yet, then those kept.
+-- Mirrors code: the list of rule numbers in work memory, from number 64 on: those not decided yet, then those kept.
 use mathlib.Core.Path.{_≡_}
 use mathlib.Core.List.{List}
 use Prim.Native.Nat.{ℕ, _+_, _≤_, _<_}

@@ -1,4 +1,4 @@
--- One trial, and all of them, as they stand in work memory.
+-- Mirrors code: one trial, and all of them, as they stand in work memory.
 use mathlib.Core.Path.{_≡_}
 use mathlib.Core.Bool.{true, false}
 use mathlib.Core.List.{List, [], _∷_}

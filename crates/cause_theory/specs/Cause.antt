@@ -1,4 +1,4 @@
--- The cause of having no settings: the rules that remain when, from the last to the first, each that can be spared is dropped.
+-- To be believed: the cause of having no settings: the rules that remain when, from the last to the first, each that can be spared is dropped.
 use mathlib.Core.List.{List, [], _∷_, _++_, map}
 use Prim.Native.Nat.{ℕ, zero, suc, _+_}
 use lib.ListN.{length, take}

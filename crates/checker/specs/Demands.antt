@@ -1,4 +1,4 @@
--- What is asked of a problem, each demand with the number and the place of its refusal, and the order in which they are asked:
+-- To be believed: what is asked of a problem, each demand with the number and the place of its refusal, and the order in which they are asked:
 -- 1; word by word 4 then 5; rule by rule 6, 7, 8; then 9.
 use mathlib.Core.Path.{_≡_}
 use mathlib.Core.List.{List}

@@ -1,4 +1,4 @@
--- What an answer of the check says: OK of a proper problem, a refusal of the first demand that is not met.
+-- To be believed: what an answer of the check says: OK of a proper problem, a refusal of the first demand that is not met.
 use mathlib.Core.Path.{_≡_}
 use mathlib.Core.List.{List}
 use Prim.Native.Nat.{ℕ, _≤_}

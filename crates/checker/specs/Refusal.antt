@@ -1,4 +1,4 @@
--- What comes back from a check: the first refusal, going through sizes, words, rules and limit in order, or OK.
+-- To be believed: what comes back from a check: the first refusal, going through sizes, words, rules and limit in order, or OK.
 use mathlib.Core.Bool.{Bool, true, false}
 use mathlib.Core.List.{List}
 use Prim.Native.Nat.{ℕ, zero, suc}

@@ -1,4 +1,4 @@
--- The demands as tests that compute.
+-- Mirrors code: the demands as tests that compute.
 use mathlib.Core.Bool.{Bool, true, false, _&&_, _||_}
 use mathlib.Core.List.{List}
 use Prim.Native.Nat.{ℕ, _+_, _%_}

@@ -1,4 +1,5 @@
 -- To be believed: digits, as bytes.
+-- Mirrors code: `digitOf`.
 use mathlib.Core.Path.{_≡_}
 use mathlib.Core.List.{List, [], _∷_}
 use Prim.Native.Nat.{ℕ, _+_, _*_, _^_, _≤_, _<_, min, _-_}

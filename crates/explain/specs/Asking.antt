@@ -1,4 +1,5 @@
--- A question about a rule: which place and bit may be asked for, and what an answer of the code is in the paper's words.
+-- Mirrors code: a question about a rule: which place and bit may be asked for, and what an answer of the code is in the paper's words.
+-- To be believed: `OpenBit`.
 use mathlib.Core.Path.{_≡_}
 use mathlib.Core.Bool.{Bool, true, false}
 use Prim.Native.Nat.{ℕ, _≤_, _<_}

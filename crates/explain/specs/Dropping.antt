@@ -1,4 +1,5 @@
--- Fixed bits gone through in turn, from the bounds and the list before to the bounds and the list after.
+-- Mirrors code: fixed bits gone through in turn, from the bounds and the list before to the bounds and the list after.
+-- To be believed: `reasonPut`.
 use mathlib.Core.Path.{_≡_}
 use mathlib.Core.Bool.{cond}
 use mathlib.Core.List.{List, [], _∷_, _++_}

@@ -1,4 +1,4 @@
--- The places of a rule by their numbers: 0 r, 1 a, 2 b, 3 s.
+-- To be believed: the places of a rule by their numbers: 0 r, 1 a, 2 b, 3 s.
 use mathlib.Core.List.{[], _∷_}
 use Prim.Native.Nat.{ℕ}
 use lib.ListN.{getD}

@@ -1,4 +1,4 @@
--- What the call `explain` promises: its answer, its place, its count, and every number of the list afterwards.
+-- To be believed: what the call `explain` promises: its answer, its place, its count, and every number of the list afterwards.
 use mathlib.Core.Path.{_≡_}
 use mathlib.Core.List.{List}
 use Prim.Native.Nat.{ℕ, _≤_, _<_}

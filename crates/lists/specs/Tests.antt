@@ -1,4 +1,4 @@
--- To be believed: what a test tells.
+-- Mirrors code: what a test tells.
 use mathlib.Core.Bool.{Bool, true, false}
 
 -- a statement holds, or it does not

@@ -1,4 +1,4 @@
--- The numbers of the answers that are no refusals, for all calls. Refusals have the paper's own numbers, which are below 32.
+-- To be believed: the numbers of the answers that are no refusals, for all calls. Refusals have the paper's own numbers, which are below 32.
 use Prim.Native.Nat.{ℕ}
 
 abbrev pub FOUND : ℕ

@@ -1,5 +1,5 @@
--- Answers as one number: the answer's own number in bits 0 to 7; its place, count, value, limit or length in bits 8 to 39; and above them how many entries
--- or records there are.
+-- To be believed: answers as one number: the answer's own number in bits 0 to 7; its place, count, value, limit or length in bits 8 to 39; and above them how
+-- many entries or records there are.
 use mathlib.Core.Path.{_≡_}
 use Prim.Native.Nat.{ℕ, _+_, _*_, _/_, _%_, _<_}
 use Rattle.checker.specs.declared.Checked.{Checked}

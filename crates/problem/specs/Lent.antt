@@ -1,4 +1,4 @@
--- Lent numbers as a problem: three numbers a word, six bytes a rule, one after the other.
+-- To be believed: lent numbers as a problem: three numbers a word, six bytes a rule, one after the other.
 use mathlib.Core.List.{List, [], _∷_}
 use Prim.Native.Nat.{ℕ, _+_, _*_, _/_}
 use lib.ListN.{length}

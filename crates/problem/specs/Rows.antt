@@ -1,4 +1,4 @@
--- The constant table of fourteen rows as numbers: the class by which the widths must fit, then whether r, a, b, s and k are used.
+-- Mirrors code: the constant table of fourteen rows as numbers: the class by which the widths must fit, then whether r, a, b, s and k are used.
 use mathlib.Core.Bool.{Bool, true}
 use mathlib.Core.List.{[], _∷_}
 use Prim.Native.Nat.{ℕ, zero, suc}

@@ -1,4 +1,4 @@
--- What the machine makes of one block, and of all.
+-- Mirrors code: what the machine makes of one block, and of all.
 use mathlib.Core.Path.{_≡_}
 use mathlib.Core.List.{List}
 use Prim.Native.Nat.{ℕ, suc, _+_, _%_, _≤_}

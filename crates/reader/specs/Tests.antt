@@ -1,4 +1,4 @@
--- What the tests of one block tell.
+-- Mirrors code: what the tests of one block tell.
 use mathlib.Core.List.{List}
 use Prim.Native.Nat.{ℕ, _+_, _*_, _<_}
 use Rattle.blocks.specs.Edition.{edition1}

@@ -1,4 +1,4 @@
--- Bits alone: the bounds of a rule's places in which, of the bits gone through, only those listed stay fixed.
+-- To be believed: bits alone: the bounds of a rule's places in which, of the bits gone through, only those listed stay fixed.
 use mathlib.Core.Bool.{Bool, false, cond, _||_}
 use mathlib.Core.List.{List, [], _∷_}
 use Prim.Native.Nat.{ℕ}

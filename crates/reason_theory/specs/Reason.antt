@@ -1,4 +1,4 @@
--- The reason for an answer: the fixed bits of a rule's places that remain when each is dropped in turn where the answer stays the same.
+-- To be believed: the reason for an answer: the fixed bits of a rule's places that remain when each is dropped in turn where the answer stays the same.
 -- A dropped bit is treated as open at its place only, so all this is over a rule's own places; a table comes in by `shape w ρ` and `span t ρ`.
 use mathlib.Core.Path.{_≡_}
 use mathlib.Core.Bool.{Bool, cond}

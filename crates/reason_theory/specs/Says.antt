@@ -1,4 +1,4 @@
--- What a rule says of one bit at one place: CONFLICT if it has no fit, FORCED with its value if all fits agree on the bit, else FREE.
+-- To be believed: what a rule says of one bit at one place: CONFLICT if it has no fit, FORCED with its value if all fits agree on the bit, else FREE.
 use mathlib.Core.Path.{_≡_}
 use mathlib.Core.Logic.{_≢_}
 use Prim.Native.Nat.{ℕ}

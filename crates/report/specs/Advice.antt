@@ -1,4 +1,4 @@
--- The advice on a file: what the program `advise` prints for it, byte by byte.
+-- To be believed: the advice on a file: what the program `advise` prints for it, byte by byte.
 use mathlib.Core.Path.{_≡_}
 use mathlib.Core.List.{List}
 use Prim.Native.Nat.{ℕ}

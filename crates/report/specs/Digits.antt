@@ -1,4 +1,4 @@
--- What digits are worth, the highest first; digit 0 is byte 48.
+-- To be believed: what digits are worth, the highest first; digit 0 is byte 48.
 use mathlib.Core.List.{List, [], _∷_}
 use Prim.Native.Nat.{ℕ, _+_, _*_, _-_}
 

@@ -1,4 +1,5 @@
--- What putting a report into lent bytes promises, and what is asked for.
+-- To be believed: what putting a report into lent bytes promises, and what is asked for.
+-- Mirrors code: `Valued`.
 use mathlib.Core.Path.{_≡_}
 use mathlib.Core.List.{List, _++_}
 use Prim.Native.Nat.{ℕ, _≤_, _<_}

@@ -1,4 +1,5 @@
--- What the call `advise` promises: which report a file gets, and every lent byte and number afterwards.
+-- To be believed: what the call `advise` promises: which report a file gets, and every lent byte and number afterwards.
+-- Mirrors code: `ToReport`, `Told`.
 use mathlib.Core.Path.{_≡_}
 use mathlib.Core.List.{List}
 use Prim.Native.Nat.{ℕ, _≤_}

@@ -1,4 +1,4 @@
--- What the adviser program prints, as bytes: the lines of each answer. Items on a line are parted by one blank, numbers are decimal, and each
+-- To be believed: what the adviser program prints, as bytes: the lines of each answer. Items on a line are parted by one blank, numbers are decimal, and each
 -- line ends with byte 10.
 use mathlib.Core.List.{List, [], _∷_, _++_, map}
 use Prim.Native.Nat.{ℕ, zero, suc, _+_}

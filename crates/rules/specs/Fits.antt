@@ -1,4 +1,4 @@
--- The fits of a rule over its own four places, and the hull of the fits.
+-- To be believed: the fits of a rule over its own four places, and the hull of the fits.
 -- Each field of a rule is a place of its own, so nothing here speaks of words: a table comes in by `Tight`.
 use mathlib.Core.Path.{_≡_}
 use Prim.Native.Nat.{ℕ}

@@ -1,4 +1,4 @@
--- Words that follow from words before them: what demand 3 asks of a problem.
+-- To be believed: words that follow from words before them: what demand 3 asks of a problem.
 use mathlib.Core.Path.{_≡_}
 use mathlib.Core.Logic.{_≢_, _⊎_}
 use mathlib.Core.List.{List}

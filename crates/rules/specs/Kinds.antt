@@ -1,4 +1,4 @@
--- The places of a rule, and the fourteen kinds by their numbers.
+-- To be believed: the places of a rule, and the fourteen kinds by their numbers.
 use mathlib.Core.List.{[], _∷_}
 use Prim.Native.Nat.{ℕ, _-_}
 use lib.ListN.{getD}

@@ -1,4 +1,4 @@
--- What each kind means, through the numbers of its places. That this is SMT-LIB's meaning is shown against `SmtLib`.
+-- To be believed: what each kind means, through the numbers of its places. That this is SMT-LIB's meaning is shown against `SmtLib`.
 use mathlib.Core.Path.{_≡_}
 use mathlib.Core.Logic.{_≢_}
 use Prim.Native.Nat.{ℕ, zero, suc, _+_, _*_, _/_, _%_, _^_, _≤_, _<_, _-_}

@@ -1,4 +1,4 @@
--- A proper table: widths and bounds as "Words" says.
+-- To be believed: a proper table: widths and bounds as "Words" says.
 use mathlib.Core.Path.{_≡_}
 use mathlib.Core.List.{List}
 use Prim.Native.Nat.{ℕ, _<_}

@@ -1,4 +1,4 @@
--- A proper problem: its table is as "Words" says, each of its rules as "Rules" says, and it has at most 32 words and 252 rules.
+-- To be believed: a proper problem: its table is as "Words" says, each of its rules as "Rules" says, and it has at most 32 words and 252 rules.
 use mathlib.Core.Path.{_≡_}
 use mathlib.Core.Bool.{Bool, true, false}
 use mathlib.Core.List.{List}

@@ -1,4 +1,4 @@
--- The fixed table of fourteen rows: the places that each kind uses, and how the widths there, and k, must fit.
+-- To be believed: the fixed table of fourteen rows: the places that each kind uses, and how the widths there, and k, must fit.
 use mathlib.Core.Path.{_≡_}
 use mathlib.Core.Bool.{Bool, true, false}
 use Prim.Native.Nat.{ℕ, _+_, _≤_, _<_}

@@ -1,4 +1,4 @@
--- SMT-LIB's own definitions of what the kinds compute and compare, each quoted above its definition as SMT-LIB publishes it in the theories
+-- To be believed: SMT-LIB's own definitions of what the kinds compute and compare, each quoted above its definition as SMT-LIB publishes it in the theories
 -- FixedSizeBitVectors and Core and in the logic QF_BV. `[[t]]` is what the term t denotes.
 use mathlib.Core.Path.{_≡_}
 use mathlib.Core.Logic.{_⊎_}

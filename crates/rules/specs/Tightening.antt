@@ -1,4 +1,4 @@
--- What tightening gives: the widest tight table inside a table, or CONFLICT where there is none.
+-- To be believed: what tightening gives: the widest tight table inside a table, or CONFLICT where there is none.
 -- `Tight` may be any property of tables, so that these words do not change with what a kind is asked for.
 use Rattle.words.specs.Table.{Table, Inside}
 

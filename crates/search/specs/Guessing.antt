@@ -1,4 +1,4 @@
--- The guess in lent memory: the word that it falls on, and its highest open bit fixed 0 or 1.
+-- Mirrors code: the guess in lent memory: the word that it falls on, and its highest open bit fixed 0 or 1.
 use mathlib.Core.Path.{_≡_}
 use mathlib.Core.Logic.{_≢_}
 use mathlib.Core.List.{List}

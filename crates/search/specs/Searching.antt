@@ -1,4 +1,4 @@
--- What the search asks of lent memory, and what it leaves there.
+-- Mirrors code: what the search asks of lent memory, and what it leaves there.
 use mathlib.Core.Path.{_≡_}
 use mathlib.Core.List.{List}
 use Prim.Native.Nat.{ℕ, _+_, _*_, _≤_, _<_, _-_}

@@ -1,4 +1,4 @@
--- The search of a problem's own table, for the rules listed in lent memory.
+-- Mirrors code: the search of a problem's own table, for the rules listed in lent memory.
 use mathlib.Core.Path.{_≡_}
 use mathlib.Core.List.{List}
 use Prim.Native.Nat.{ℕ, _≤_, _<_}

@@ -1,4 +1,4 @@
--- The ceiling of a problem.
+-- To be believed: the ceiling of a problem.
 use mathlib.Core.Path.{_≡_}
 use mathlib.Core.List.{List}
 use Prim.Native.Nat.{ℕ, suc, _^_, _≤_}

@@ -1,4 +1,4 @@
--- The number G of a search: what the published search comes to at every limit.
+-- To be believed: the number G of a search: what the published search comes to at every limit.
 use mathlib.Core.List.{List}
 use Prim.Native.Nat.{ℕ, _≤_, _<_}
 use Rattle.words.specs.Table.{Table}

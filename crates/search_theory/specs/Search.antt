@@ -1,4 +1,4 @@
--- The published search, as a relation between a table, the guesses made before it, and what it comes to.
+-- To be believed: the published search, as a relation between a table, the guesses made before it, and what it comes to.
 -- `Tight` may be any property of tables: neither the kinds, nor how tightening is done, nor the order of rules enters here.
 use mathlib.Core.List.{List}
 use Prim.Native.Nat.{ℕ, suc, _≤_, _<_}

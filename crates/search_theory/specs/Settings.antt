@@ -1,4 +1,4 @@
--- Settings of a table, and the first of them in word order.
+-- To be believed: settings of a table, and the first of them in word order.
 -- `Holds` may be any property of values; a problem's is that all its rules hold.
 use mathlib.Core.Path.{_≡_}
 use mathlib.Core.Logic.{_⊎_}

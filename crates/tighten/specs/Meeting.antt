@@ -1,4 +1,4 @@
--- One rule's narrowing put into work memory: its fields, the bounds and widths of its words, and bounds met with others.
+-- Mirrors code: one rule's narrowing put into work memory: its fields, the bounds and widths of its words, and bounds met with others.
 use mathlib.Core.Bool.{Bool, true, false, not, _&&_, _||_}
 use mathlib.Core.List.{List}
 use Prim.Native.Nat.{ℕ, _+_, _*_}

@@ -1,4 +1,5 @@
--- Work memory as a table and a list of rules: low bounds from number 0 on, high bounds from 32 on, rule numbers from 64 on.
+-- Mirrors code: work memory as a table and a list of rules: low bounds from number 0 on, high bounds from 32 on, rule numbers from 64 on.
+-- To be believed: `Cleared`.
 use mathlib.Core.Path.{_≡_}
 use mathlib.Core.Logic.{_⊎_}
 use mathlib.Core.List.{List}

@@ -1,4 +1,5 @@
--- What the call `tighten` promises: its answer, and every lent number afterwards.
+-- To be believed: what the call `tighten` promises: its answer, and every lent number afterwards.
+-- Mirrors code: `TightenEnds`.
 use mathlib.Core.Path.{_≡_}
 use mathlib.Core.Bool.{Bool, true, false}
 use mathlib.Core.List.{List}

@@ -1,4 +1,4 @@
--- What is known of lent memory before a rule is applied, and what is promised after it.
+-- Mirrors code: what is known of lent memory before a rule is applied, and what is promised after it.
 use mathlib.Core.Bool.{Bool, true, false}
 use mathlib.Core.List.{List}
 use Prim.Native.Nat.{ℕ, _+_, _≤_, _<_}

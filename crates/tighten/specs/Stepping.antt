@@ -1,4 +1,4 @@
--- What a step of tightening has done to a table, for a notion P of tight: one rule, or all rules once.
+-- Mirrors code: what a step of tightening has done to a table, for a notion P of tight: one rule, or all rules once.
 use mathlib.Core.Path.{_≡_}
 use mathlib.Core.Bool.{true, false}
 use Prim.Native.Nat.{ℕ, _<_}

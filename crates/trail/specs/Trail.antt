@@ -1,4 +1,4 @@
--- Memory that holds a table at 0..64, a copy at 316..380 and a trail from 380 on: what is put on the trail, and how it is taken back.
+-- Mirrors code: memory that holds a table at 0..64, a copy at 316..380 and a trail from 380 on: what is put on the trail, and how it is taken back.
 use mathlib.Core.Path.{_≡_}
 use mathlib.Core.Bool.{not, cond}
 use mathlib.Core.Logic.{_⊎_}

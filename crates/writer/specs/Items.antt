@@ -1,4 +1,4 @@
--- What the writer puts down, by its places; and the room that it asks for.
+-- Mirrors code: what the writer puts down, by its places; and the room that it asks for.
 use mathlib.Core.Bool.{Bool, _&&_}
 use mathlib.Core.List.{List}
 use Prim.Native.Nat.{ℕ, _+_, _*_, _/_, _<_}
