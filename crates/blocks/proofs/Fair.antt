@@ -1,35 +1,19 @@
 -- Editions whose records fit their blocks and whose files may have as many blocks as the totals ask for. All laws are about such editions; edition 1 is one.
 use mathlib.Core.Path.{_≡_, refl}
-use mathlib.Core.List.{List}
 use Prim.Native.Nat.{ℕ, suc, zero, _+_, _*_, _<_, _≤_}
 use native.Mathlib.Nat.{mul-le-mul-right, mul-le-mul-left}
 use native.Mathlib.Omega.{arith}
 use lib.ListN.{length, length-append}
+use Rattle.blocks.specs.Fair.{FormFits, Fair}
 use Rattle.lists.specs.Lists.{at, zeros}
 use Rattle.rules.specs.Tight.{Rule}
 use Rattle.blocks.specs.Records.{wordBytes, ruleBytes, wordRecord, ruleRecord}
-use Rattle.blocks.specs.Edition.{Form, Edition, edition1}
-use Rattle.rules.specs.ProperProblem.{most-words, most-rules}
-use Rattle.blocks.specs.Written.{blocksFor, wordBlocks, ruleBlocks}
+use Rattle.blocks.specs.Edition.{Form, edition1}
+use Rattle.blocks.specs.Written.{blocksFor}
 use Rattle.lists.proofs.Pieces.{length-zeros, at-zeros}
 use Rattle.blocks.proofs.Numbers.{length-le}
 
--- a record has at least eight bytes, a full block has one or more records, and they fit
-pub record Fits (F : Form) : Type 0 where
-  pub some : 0 < F .most
-  pub wide : 8 ≤ F .size
-  pub room : F .size * F .most ≤ 504
-  pub sized : (l : List ℕ) (j : ℕ) → length (F .bytes l j) ≡ F .size
-  pub clear : (l : List ℕ) (j x : ℕ) → F .used ≤ x → x < 8 → at (F .bytes l j) x ≡ 0
-
-pub record Fair (E : Edition) : Type 0 where
-  pub words : Fits (E .words)
-  pub rules : Fits (E .rules)
-  pub enough : wordBlocks E most-words + ruleBlocks E most-rules + 1 ≤ E .blocks
-  pub few : E .blocks < 65536
-  pub byte : E .number < 256
-
-module _ {F : Form} (fits : Fits F) where
+module _ {F : Form} (fits : FormFits F) where
   -- so many records lie in a block
   pub in-block : (c : ℕ) → c ≤ F .most → F .size * c ≤ 504
   in-block c h = omega (arith, mul-le-mul-left (F .size) h, fits .room)

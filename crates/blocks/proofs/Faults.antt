@@ -8,7 +8,7 @@ use lib.ListN.{length}
 use Rattle.blocks.specs.Edition.{Edition}
 use Rattle.blocks.specs.Block.{Sound, EndBlock}
 use Rattle.blocks.specs.File.{blockAt, ProperFile, Begins, Whole, Fault, check, layout, last}
-use Rattle.blocks.proofs.Fair.{Fair}
+use Rattle.blocks.specs.Fair.{Fair}
 use Rattle.blocks.proofs.Machine.{same-part, begins-accepted}
 use Rattle.blocks.proofs.Once.{accepted-sound}
 

@@ -14,7 +14,7 @@ use Rattle.lists.proofs.Parts.{length-part, part-add, part-all, part-left, part
 use Rattle.lists.proofs.Unders.{under-part}
 use Rattle.blocks.proofs.Numbers.{length-le}
 use Rattle.blocks.proofs.Block.{length-block}
-use Rattle.blocks.proofs.Fair.{Fair}
+use Rattle.blocks.specs.Fair.{Fair}
 use Rattle.blocks.proofs.Records.{end-block}
 use Rattle.blocks.proofs.InOrder.{blocks-number}
 use Rattle.blocks.proofs.Sequence.{rawAt, length-blocksOf, blocks-bytes, raw-is}

@@ -11,10 +11,10 @@ use Rattle.blocks.specs.Block.{RecordBlock}
 use Rattle.blocks.specs.File.{blockAt, countAt, Blocks}
 use Rattle.blocks.specs.Written.{held, blocksFor}
 use Rattle.lists.proofs.Pieces.{total-none, total-more}
-use Rattle.blocks.proofs.Fair.{Fits}
+use Rattle.blocks.specs.Fair.{FormFits}
 use Rattle.blocks.proofs.Counts.{blocks-exact, blocks-nothing, full-last}
 
-module _ (E : Edition) (kind : ℕ) (F : Form) (fits : Fits F) (f : List ℕ) (first : ℕ) where
+module _ (E : Edition) (kind : ℕ) (F : Form) (fits : FormFits F) (f : List ℕ) (first : ℕ) where
   pub blocks-none : Blocks E kind F f first 0 0
   blocks-none = record { each = λ i h. absurd (omega arith); full = λ i h. absurd (omega arith); count = total-none (λ i. countAt f (first + i)) }
 

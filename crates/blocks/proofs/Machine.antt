@@ -17,7 +17,7 @@ use Rattle.lists.proofs.Unders.{under-part, under-append}
 use Rattle.blocks.proofs.Numbers.{length-le}
 use Rattle.blocks.proofs.Under.{under-block, under-le}
 use Rattle.blocks.proofs.Block.{length-block}
-use Rattle.blocks.proofs.Fair.{Fair}
+use Rattle.blocks.specs.Fair.{Fair}
 use Rattle.blocks.proofs.Records.{block-end}
 use Rattle.blocks.proofs.Shape.{ended-proper, proper-ended, run-shaped, shaped-blocks}
 

@@ -12,7 +12,7 @@ use Rattle.blocks.specs.File.{ProperFile}
 use Rattle.blocks.specs.Written.{held, blocksOf, wordBlocks, ruleBlocks, fileOf}
 use Rattle.lists.proofs.Unders.{under-append, under-flat}
 use Rattle.blocks.proofs.Under.{under-block, under-le}
-use Rattle.blocks.proofs.Fair.{Fair}
+use Rattle.blocks.specs.Fair.{Fair}
 use Rattle.blocks.proofs.Records.{block-end}
 use Rattle.blocks.proofs.Counts.{blocks-rise}
 use Rattle.blocks.proofs.Sequence.{bytes-blocks}

@@ -8,7 +8,7 @@ use Rattle.blocks.specs.Edition.{Edition}
 use Rattle.blocks.specs.Block.{Sound, Header, EndBlock}
 use Rattle.blocks.specs.File.{blockAt, ProperFile}
 use Rattle.blocks.specs.Machine.{Run, start, more-words, more-rules, Ended, end, Accepted, going, ended}
-use Rattle.blocks.proofs.Fair.{Fair}
+use Rattle.blocks.specs.Fair.{Fair}
 use Rattle.blocks.proofs.Shape.{proper-ended}
 
 -- a block has one kind

@@ -15,7 +15,8 @@ use Rattle.lists.proofs.Unders.{under-part}
 use Rattle.lists.proofs.Pieces.{flat-parts, length-flat, part-flat, all-zeros, at-zeros}
 use Rattle.blocks.proofs.Numbers.{length-le, number-le, number-under, part-le}
 use Rattle.blocks.proofs.Block.{block-header, block-rest, header-block}
-use Rattle.blocks.proofs.Fair.{Fits, in-block, few-records}
+use Rattle.blocks.specs.Fair.{FormFits}
+use Rattle.blocks.proofs.Fair.{in-block, few-records}
 
 -- ---- bytes after the header
 
@@ -54,7 +55,7 @@ rest-clear E b kind i c t e = record { zero-at = λ x lo hi. go x (x - 8 - lengt
 abbrev pub raw : Form → List ℕ → ℕ → List ℕ
 raw F b j = part b (8 + F .size * j) (F .size)
 
-module _ (E : Edition) (kind : ℕ) (F : Form) (fits : Fits F) where
+module _ (E : Edition) (kind : ℕ) (F : Form) (fits : FormFits F) where
   pub records-block : {i c : ℕ} {b : List ℕ} → length b ≡ 512 → Under 256 b → RecordBlock E kind F i c b → b ≡ block E kind i c (flat c (raw F b))
   records-block {i} {c} {b} long u r =
       let room = in-block fits c (r .records .fits) in

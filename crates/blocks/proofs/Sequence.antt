@@ -14,7 +14,8 @@ use Rattle.lists.proofs.Parts.{length-part, part-part}
 use Rattle.lists.proofs.Unders.{under-part}
 use Rattle.lists.proofs.Pieces.{flat-parts, flat-same, length-flat, part-flat, total-same}
 use Rattle.blocks.proofs.Block.{length-block}
-use Rattle.blocks.proofs.Fair.{Fits, in-block}
+use Rattle.blocks.specs.Fair.{FormFits}
+use Rattle.blocks.proofs.Fair.{in-block}
 use Rattle.blocks.proofs.Records.{raw, records-block, record-in, block-records}
 use Rattle.blocks.proofs.Counts.{block-there, held-full, held-some, held-total, quotient, remainder}
 use Rattle.blocks.proofs.InOrder.{blocks-held}
@@ -23,7 +24,7 @@ use Rattle.blocks.proofs.InOrder.{blocks-held}
 unfoldable pub rawAt : Form → List ℕ → ℕ → ℕ → List ℕ
 rawAt F f first j = raw F (blockAt f (first + j / F .most)) (j % F .most)
 
-module _ (E : Edition) (kind : ℕ) (F : Form) (fits : Fits F) (first n : ℕ) where
+module _ (E : Edition) (kind : ℕ) (F : Form) (fits : FormFits F) (first n : ℕ) where
   -- the same records make the same blocks
   pub blocksOf-same : (v w : ℕ → List ℕ) (q : ℕ) → ((j : ℕ) → j < n → v j ≡ w j)
       → blocksOf E kind (F .most) first n v q ≡ blocksOf E kind (F .most) first n w q

@@ -12,7 +12,7 @@ use Rattle.rules.specs.ProperProblem.{most-words, most-rules}
 use Rattle.blocks.specs.File.{blockAt, countAt, Blocks, ProperFile}
 use Rattle.blocks.specs.Machine.{Run, start, more-words, more-rules, Ended, end}
 use Rattle.lists.proofs.Pieces.{total-none}
-use Rattle.blocks.proofs.Fair.{Fair}
+use Rattle.blocks.specs.Fair.{Fair}
 use Rattle.blocks.proofs.Counts.{blocks-nothing, blocks-rise}
 use Rattle.blocks.proofs.InOrder.{blocks-none, blocks-less, blocks-more, blocks-number}
 

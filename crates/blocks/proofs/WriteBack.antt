@@ -17,7 +17,8 @@ use Rattle.blocks.specs.Decode.{slot, wordsIn, rulesIn}
 use Rattle.lists.proofs.Parts.{at-part, short-part}
 use Rattle.lists.proofs.Unders.{under-part, under-series}
 use Rattle.blocks.proofs.Numbers.{number-under}
-use Rattle.blocks.proofs.Fair.{Fits, fair1}
+use Rattle.blocks.specs.Fair.{FormFits}
+use Rattle.blocks.proofs.Fair.{fair1}
 use Rattle.blocks.proofs.Counts.{block-there}
 use Rattle.blocks.proofs.InOrder.{blocks-number, blocks-held}
 use Rattle.blocks.proofs.Sequence.{rawAt, blocksOf-same}
@@ -48,7 +49,7 @@ clear-at f i a e h z = record { zero-at = λ x lo hi. go x (x - 512 * i) (omega 
     go x y q lo hi = rw q (sym (at-part f (512 * i) 512 y (omega arith)) ∙ z .zero-at y lo hi)
 
 -- the gap of record j among the blocks of one form
-gap-at : (kind : ℕ) (F : Form) (fits : Fits F) (f : List ℕ) (first q n j : ℕ) → Blocks edition1 kind F f first q n → j < n
+gap-at : (kind : ℕ) (F : Form) (fits : FormFits F) (f : List ℕ) (first q n j : ℕ) → Blocks edition1 kind F f first q n → j < n
     → 8 + F .size * (j % F .most) + 8 ≤ 512
     → Clear f (512 * (first + j / F .most) + (8 + F .size * (j % F .most) + F .used)) (512 * (first + j / F .most) + (8 + F .size * (j % F .most) + 8))
 gap-at kind F fits f first q n j b h l =

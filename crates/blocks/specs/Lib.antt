@@ -7,3 +7,4 @@ pub mod Machine
 pub mod Written
 pub mod Decode
 pub mod Promise
+pub mod Fair

@@ -102,3 +102,15 @@ boards =
     ∷ explain boardJ 0 B 1 (FORCED 1) (64 ∷ 65 ∷ 66 ∷ 128 ∷ 130 ∷ [])
     ∷ explain boardK 0 A 0 (FORCED 0) (0 ∷ 128 ∷ [])
     ∷ []
+
+-- one open word of width 2 takes 2 guesses, and with "it is not itself" 3; the ceiling stays
+abbrev twoBits : List Rule → Problem
+twoBits rs = problem (2 ∷ []) (0 ∷ []) (3 ∷ []) rs
+
+abbrev pub rises : List Row
+rises =
+    solve (twoBits []) 1000000 (found (0 ∷ []) 2)
+    ∷ ceiling (twoBits []) 3
+    ∷ solve (twoBits (ne 0 0 ∷ [])) 1000000 (none 3)
+    ∷ ceiling (twoBits (ne 0 0 ∷ [])) 3
+    ∷ []

@@ -17,7 +17,8 @@ use Rattle.checker.proofs.Rooms.{first-short, second-short, roomy, has-room}
 use Rattle.lists.proofs.Series.{length-series, series-at}
 use Rattle.tighten.specs.Memory.{tableIn, Numbered, Cleared}
 use Rattle.tighten.proofs.Calling.{all-chosen, all-listed}
-use Rattle.search_theory.proofs.Limit.{answer-none, count-limit}
+use Rattle.search_theory.specs.Search.{answer-none}
+use Rattle.search_theory.proofs.Limit.{count-limit}
 use Rattle.search.specs.declared.Answer.{Answer}
 use Rattle.search.specs.declared.Answer.the-variants.{Found, Nothing, GaveUp}
 use Rattle.search.specs.Searching.{outcomeOf}

@@ -1,28 +1,23 @@
 -- What the entries that `cause` gives back are: a list of rules without settings, of which none can be left out.
 use mathlib.Core.Path.{_≡_, sym, subst, _∙_}
 use mathlib.Core.Logic.{_≢_}
-use mathlib.Core.List.{List, map}
+use mathlib.Core.List.{List}
 use Prim.Native.Nat.{ℕ, _<_}
 use native.Mathlib.Omega.{arith}
 use native.Mathlib.Decide.{ℕ-discrete}
 use lib.ListN.{length, take, length-take}
 use lib.Seq.{ext-getD, getD-take}
 use Rattle.lists.specs.Lists.{at}
-use Rattle.rules.specs.Tight.{rule, AllHold}
 use Rattle.rules.proofs.Propers.{proper-inside}
-use Rattle.problem.specs.Lent.{widthsOf, tableOf, rulesOf}
+use Rattle.problem.specs.Lent.{tableOf}
 use Rattle.search_theory.specs.Settings.{Settings, Without}
 use Rattle.cause_theory.specs.Cause.{CAUSE}
 use Rattle.cause_theory.proofs.Without.{cause-without, cause-some}
 use Rattle.lists.specs.Every.{In}
 use Rattle.cause_theory.proofs.Irreducible.{cause-irreducible}
 use Rattle.cause.specs.declared.Caused.the-variants as answer
-use Rattle.cause.specs.Promise.{Named, Causing, caused-by, CauseGiven}
+use Rattle.cause.specs.Promise.{Named, Causing, caused-by, CauseGiven, RulesHold}
 use Rattle.cause.proofs.Calling.{fine}
-
--- the rules of the lent problem whose numbers are listed
-abbrev RulesHold : List ℕ → List ℕ → List ℕ → List ℕ → Type 0
-RulesHold ws bs out = AllHold (widthsOf ws) (map (rule (rulesOf bs)) out)
 
 module _ {limit : ℕ} {ws bs s l : List ℕ} {g k : ℕ} {s′ l′ : List ℕ} (c : Causing limit ws bs s l (answer.Cause g k) s′ l′) where
   -- the first k entries are the cause of the paper's procedure, and g its sum

@@ -1,8 +1,9 @@
 -- To be believed: what the call `cause` promises: its answer, and every lent number afterwards.
 use mathlib.Core.Path.{_≡_}
-use mathlib.Core.List.{List}
+use mathlib.Core.List.{List, map}
 use Prim.Native.Nat.{ℕ, _≤_, _<_}
 use lib.ListN.{length}
+use Rattle.rules.specs.Tight.{rule, AllHold}
 use Rattle.lists.specs.Lists.{at}
 use Rattle.checker.specs.declared.Checked.{Checked}
 use Rattle.checker.specs.declared.Checked.the-variants.{Ok, Refused}
@@ -52,3 +53,7 @@ pub data Causing (limit : ℕ) (ws bs list work : List ℕ) : Caused → List �
 pub record NoneFirst (limit : ℕ) (ws bs list work : List ℕ) (first : ℕ) : Type 0 where
   pub given : CauseGiven limit ws bs list work
   pub nothing : Tried (widthsOf ws) limit (tableOf ws) (rulesOf bs) (none first)
+
+-- the rules of the lent problem whose numbers are listed
+abbrev pub RulesHold : List ℕ → List ℕ → List ℕ → List ℕ → Type 0
+RulesHold ws bs out = AllHold (widthsOf ws) (map (rule (rulesOf bs)) out)

@@ -11,13 +11,12 @@ use Rattle.rules.specs.Proper.{Proper}
 use Rattle.rules.specs.Tightening.{Widest, Conflict}
 use Rattle.lists.specs.Every.{All}
 use Rattle.rules.proofs.Widest.{every-table}
-use Rattle.search_theory.specs.Search.{Outcome, none, gave-up}
-use Rattle.search_theory.proofs.Limit.{Answer, answer-found, answer-none}
+use Rattle.search_theory.specs.Search.{Outcome, none, gave-up, AnswerIs, answer-found, answer-none}
 use Rattle.search_theory.proofs.Outcomes.{found-not-none, none-not-gave-up}
 use Rattle.search_theory.proofs.Inversion.{at-conflict}
 use Rattle.search_theory.proofs.TheCeiling.{some-ceiling, count-ceiling, ceiling-reached}
 use Rattle.cause_theory.specs.Cause.{Cause, CAUSE, GAVE-UP, trial, Tried, Trims, decided, spared, needed, unknown, Causes, exists, gives-up, trimmed}
-use Rattle.cause_theory.proofs.Sum.{sum}
+use Rattle.cause_theory.specs.Cause.{sumOf}
 
 -- ---- one search: the ceiling of its own rules, and 0 where its table conflicts
 
@@ -29,11 +28,11 @@ module _ (w : List ℕ) (t : Table) (proper : Proper w t) (xs : List Rule) where
       go (inl (u, h)) = let (c, p) = some-ceiling w xs t proper u in (c, tightens h p)
       go (inr c) = (0, conflicts c)
 
-  pub tried-count : {limit n c : ℕ} {o : Outcome} → SearchCeiling w t xs c → Tried w limit t xs o → Answer o n → n ≤ c
+  pub tried-count : {limit n c : ℕ} {o : Outcome} → SearchCeiling w t xs c → Tried w limit t xs o → AnswerIs o n → n ≤ c
   tried-count {limit} {n} {o = o} (tightens {u = u} h p) s a = count-ceiling w xs t proper u h _ p limit n o s a
   tried-count {limit} {n} (conflicts c) s a = zero-count a (at-conflict (Tight w xs) limit c s)
     where
-      zero-count : {o : Outcome} → Answer o n → o ≡ none 0 → n ≤ 0
+      zero-count : {o : Outcome} → AnswerIs o n → o ≡ none 0 → n ≤ 0
       zero-count answer-found e = absurd (found-not-none e)
       zero-count answer-none e = let z : n ≡ 0 = cc in omega arith
 
@@ -48,7 +47,7 @@ module _ {w : List ℕ} {rs : List Rule} {limit : ℕ} {t : Table} (proper : Pro
   trials-sum : {n c : ℕ} {kept : List ℕ} {x : Cause} (r : Trims w rs limit t n kept c x) → (d : ℕ) (out : List ℕ) → x ≡ CAUSE out d
       → d ≤ c + sumOver C (trials r)
   unfolding trials
-  trials-sum decided d out e = let z = ap sum e in omega arith
+  trials-sum decided d out e = let z = ap sumOf e in omega arith
   trials-sum (spared {n = n} {kept = kept} s r) d out e =
       omega (arith, trials-sum r d out e, tried-count w t proper (trial rs n kept) (ceil (trial rs n kept)) s answer-none)
   trials-sum (needed {n = n} {kept = kept} s r) d out e =

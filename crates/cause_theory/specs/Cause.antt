@@ -37,3 +37,9 @@ module _ (w : List ℕ) (rs : List Rule) (limit : ℕ) (t : Table) where
     exists : {v : List ℕ} {c : ℕ} → Tried w limit t rs (found v c) → Causes (EXISTS c)
     gives-up : Tried w limit t rs gave-up → Causes (GAVE-UP limit)
     trimmed : {c : ℕ} {x : Cause} → Tried w limit t rs (none c) → Trims (length rs) [] c x → Causes x
+
+-- the count of each answer
+abbrev pub sumOf : Cause → ℕ
+sumOf (EXISTS c) = c
+sumOf (CAUSE out c) = c
+sumOf (GAVE-UP c) = c

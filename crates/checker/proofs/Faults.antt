@@ -15,7 +15,7 @@ use Rattle.rules.specs.Tight.{word}
 use Rattle.rules.specs.ProperProblem.{usesK, kinds, most-words, most-rules}
 use Rattle.checker.specs.declared.Checked.the-variants.{Refused}
 use Rattle.problem.specs.Lent.{stride, fields, wordCount, widthAt, loAt, hiAt, ruleCount, ruleAt}
-use Rattle.checker.specs.Demands.{Demand, SIZE, WIDTH, TABLE, KIND, FIELD, FIT, LIMIT, number, place, Met, most-guesses}
+use Rattle.checker.specs.Demands.{Demand, SIZE, WIDTH, TABLE, KIND, FIELD, FIT, LIMIT, number, place, Met, most-guesses, There}
 use Rattle.checker.specs.Refusal.{refusalWith}
 use Rattle.checker.specs.Promise.{FirstUnmet, refused}
 use Rattle.checker.proofs.Right.{right-check}
@@ -32,17 +32,7 @@ module _ (limit : ℕ) (ws bs : List ℕ) where
   pub first-refused : (d : Demand) → FirstUnmet limit ws bs d → refusalWith limit ws bs ≡ Refused (number d) (place d)
   first-refused d u = sym (right-check limit ws bs (Refused (number d) (place d)) (refused {n = number d} {p = place d} d refl refl u))
 
-  -- what is refused is a word or a rule that is there
-  abbrev pub There : Demand → Type 0
-  There SIZE = Unit {0}
-  There (WIDTH i) = i < wordCount ws
-  There (TABLE i) = i < wordCount ws
-  There (KIND n) = n < ruleCount bs
-  There (FIELD n) = n < ruleCount bs
-  There (FIT n) = n < ruleCount bs
-  There LIMIT = Unit {0}
-
-  pub unmet-there : (d : Demand) → ¬ Met limit ws bs d → There d
+  pub unmet-there : (d : Demand) → ¬ Met limit ws bs d → There limit ws bs d
   unmet-there SIZE u = tt
   unmet-there (WIDTH i) u = inside i (wordCount ws) u
   unmet-there (TABLE i) u = inside i (wordCount ws) u

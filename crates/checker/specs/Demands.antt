@@ -73,3 +73,13 @@ module _ (limit : ℕ) (ws bs : List ℕ) where
   Met (FIELD n) = n < ruleCount bs → Fields (wordCount ws) (ruleAt bs n)
   Met (FIT n) = n < ruleCount bs → Fitting (kindOf (ruleAt bs n .kind)) (λ p. widthAt ws (word (ruleAt bs n) p)) (ruleAt bs n .k)
   Met LIMIT = limit ≤ most-guesses
+
+  -- what is refused is a word or a rule that is there
+  abbrev pub There : Demand → Type 0
+  There SIZE = Unit {0}
+  There (WIDTH i) = i < wordCount ws
+  There (TABLE i) = i < wordCount ws
+  There (KIND n) = n < ruleCount bs
+  There (FIELD n) = n < ruleCount bs
+  There (FIT n) = n < ruleCount bs
+  There LIMIT = Unit {0}

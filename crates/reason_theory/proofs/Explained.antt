@@ -71,3 +71,6 @@ module _ {σ : Shape} {t : Span} {p : Place} (legal : Legal σ t) (u : Uses σ p
       go CONFLICT s = given CONFLICT (λ e. let z : _≡_ {A = ℕ} 0 1 = cc in omega arith) s
       go (FORCED b) s = given (FORCED b) (λ e. let z : _≡_ {A = ℕ} 0 1 = cc in omega arith) s
       go FREE s = no-reason s
+
+  pub every-explanation : (x : Answer) × (out : List ℕ) × Explains σ t p j x out
+  every-explanation = (explained σ t p j .0, explained σ t p j .1, explained-right)

@@ -18,9 +18,9 @@ use Rattle.rules.proofs.Propers.{proper-inside, proper-narrower}
 use Rattle.problem.specs.Lent.{wordCount, widthsOf, rulesOf}
 use Rattle.tighten.specs.Memory.{tableIn}
 use Rattle.trail.specs.Trail.{RolledBack}
-use Rattle.search_theory.specs.Search.{found, none, Search, first, second, ends-found, ends-gave-up}
+use Rattle.search_theory.specs.Search.{found, none, Search, first, second, ends-found, ends-gave-up, answer-none}
 use Rattle.search_theory.proofs.Falls.{search-falls}
-use Rattle.search_theory.proofs.Limit.{answer-none, count-limit}
+use Rattle.search_theory.proofs.Limit.{count-limit}
 use Rattle.search_theory.proofs.Solved.{proper-short}
 use Rattle.search.specs.declared.Answer.{Answer}
 use Rattle.search.specs.declared.Answer.the-variants.{Found, Nothing, GaveUp}

@@ -15,22 +15,22 @@ use Rattle.words.proofs.Tables.{in-reach}
 use Rattle.words.proofs.Falls.{open-less}
 use Rattle.rules.specs.Tightening.{Tightened, TIGHT, CONFLICT, Tightens}
 use Rattle.rules.proofs.Agree.{Agree}
-use Rattle.search_theory.specs.Search.{Outcome, found, none, gave-up, count, Search}
+use Rattle.search_theory.specs.Search.{Outcome, found, none, gave-up, count, Search, AnswerIs, answer-found, answer-none}
 use Rattle.search_theory.specs.Guesses.{Answers, answers-found, answers-none, Guesses}
 use Rattle.search_theory.proofs.Unique.{one-outcome}
 use Rattle.search_theory.proofs.Right.{right}
 use Rattle.search_theory.proofs.Inversion.{at-conflict}
-use Rattle.search_theory.proofs.Limit.{Answer, answer-found, answer-none, answer-not, count-limit, limit-free}
+use Rattle.search_theory.proofs.Limit.{answer-not, count-limit, limit-free}
 use Rattle.search_theory.proofs.Ceiling.{Driven, ceiling-answers}
 use Rattle.search_theory.proofs.Run.{Engine, run, run-right}
 
 -- an outcome is an answer with its count, or gave up
-pub answered : (o : Outcome) → ((n : ℕ) × Answer o n) ⊎ (o ≡ gave-up)
+pub answered : (o : Outcome) → ((n : ℕ) × AnswerIs o n) ⊎ (o ≡ gave-up)
 answered (found v n) = inl (n, answer-found)
 answered (none n) = inl (n, answer-none)
 answered gave-up = inr refl
 
-answer-count : {o : Outcome} {n : ℕ} (limit : ℕ) → Answer o n → count limit o ≡ n
+answer-count : {o : Outcome} {n : ℕ} (limit : ℕ) → AnswerIs o n → count limit o ≡ n
 answer-count limit answer-found = refl
 answer-count limit answer-none = refl
 
@@ -42,10 +42,10 @@ module _ (Tight Ok : Table → Type 0) (tightened : Table → Tightened) (engine
       (run tightened limit (suc (openBelow n t)) t 0, run-right Tight Ok tightened engine limit n (suc (openBelow n t)) t 0 ok (le-refl n) (le-refl _))
 
   -- an answer at some limit, with count n: at a limit below n the search gives up
-  fewer-gives-up : {limit limit′ n : ℕ} {o : Outcome} → Search Tight limit t 0 o → Answer o n → limit′ < n → Search Tight limit′ t 0 gave-up
+  fewer-gives-up : {limit limit′ n : ℕ} {o : Outcome} → Search Tight limit t 0 o → AnswerIs o n → limit′ < n → Search Tight limit′ t 0 gave-up
   fewer-gives-up {limit} {limit′} {n} {o} s a l = go (some-outcome limit′)
     where
-      other : (o′ : Outcome) (m : ℕ) → Search Tight limit′ t 0 o′ → Answer o′ m → ⊥
+      other : (o′ : Outcome) (m : ℕ) → Search Tight limit′ t 0 o′ → AnswerIs o′ m → ⊥
       other o′ m s′ a′ =
           let k : m ≤ limit′ = count-limit s′ a′ (omega arith) in
           let e : o′ ≡ o = one-outcome Tight limit (limit-free s′ a′ (omega (arith, count-limit s a (omega arith)))) s in
@@ -57,7 +57,7 @@ module _ (Tight Ok : Table → Type 0) (tightened : Table → Tightened) (engine
       go : (x : (o : Outcome) × Search Tight limit′ t 0 o) → Search Tight limit′ t 0 gave-up
       go (o′, s′) = by (answered o′)
         where
-          by : ((m : ℕ) × Answer o′ m) ⊎ (o′ ≡ gave-up) → Search Tight limit′ t 0 gave-up
+          by : ((m : ℕ) × AnswerIs o′ m) ⊎ (o′ ≡ gave-up) → Search Tight limit′ t 0 gave-up
           by (inl (m, a′)) = absurd (other o′ m s′ a′)
           by (inr e) = rw e at s′
 
@@ -68,7 +68,7 @@ module _ (Tight Ok : Table → Type 0) (tightened : Table → Tightened) (engine
       more : Search Tight L t 0 gave-up → ((o : Outcome) × Search Tight (suc L) t 0 o) → (o : Outcome) × Search Tight (suc L) t 0 o × (count (suc L) o ≡ suc L)
       more s (o, s′) = (o, s′, by (answered o))
         where
-          by : ((n : ℕ) × Answer o n) ⊎ (o ≡ gave-up) → count (suc L) o ≡ suc L
+          by : ((n : ℕ) × AnswerIs o n) ⊎ (o ≡ gave-up) → count (suc L) o ≡ suc L
           by (inl (n, a)) = at-most (decLe n L)
             where
               at-most : Dec (n ≤ L) → count (suc L) o ≡ suc L
@@ -79,7 +79,7 @@ module _ (Tight Ok : Table → Type 0) (tightened : Table → Tightened) (engine
       less : ((o : Outcome) × Search Tight (suc L) t 0 o × (count (suc L) o ≡ suc L)) → ((o : Outcome) × Search Tight L t 0 o) → Search Tight L t 0 gave-up
       less (o, s, e) (o′, s′) = by (answered o′)
         where
-          by : ((n : ℕ) × Answer o′ n) ⊎ (o′ ≡ gave-up) → Search Tight L t 0 gave-up
+          by : ((n : ℕ) × AnswerIs o′ n) ⊎ (o′ ≡ gave-up) → Search Tight L t 0 gave-up
           by (inl (n, a)) =
               let l : n ≤ L = count-limit s′ a (omega arith) in
               let same : o′ ≡ o = one-outcome Tight (suc L) (limit-free s′ a (omega arith)) s in
@@ -107,7 +107,7 @@ module _ (Tight Ok : Table → Type 0) (tightened : Table → Tightened) (engine
       go CONFLICT c = λ e. answer-not (answer-none {n = 0}) (sym (at-conflict Tight most c s) ∙ e)
 
   module _ (Holds : List ℕ → Type 0) (agree : Agree Tight Holds) where
-    right-answers : {limit n : ℕ} {o : Outcome} → Search Tight limit t 0 o → Answer o n → Answers Holds t n o
+    right-answers : {limit n : ℕ} {o : Outcome} → Search Tight limit t 0 o → AnswerIs o n → Answers Holds t n o
     right-answers s answer-found = answers-found (right Tight Holds agree s)
     right-answers s answer-none = answers-none (right Tight Holds agree s)
 
@@ -118,7 +118,7 @@ module _ (Tight Ok : Table → Type 0) (tightened : Table → Tightened) (engine
         go : (x : (o : Outcome) × Search Tight most t 0 o) → (G : ℕ) × Guesses Tight Holds t G
         go (o, s) = by (answered o)
           where
-            by : ((n : ℕ) × Answer o n) ⊎ (o ≡ gave-up) → (G : ℕ) × Guesses Tight Holds t G
+            by : ((n : ℕ) × AnswerIs o n) ⊎ (o ≡ gave-up) → (G : ℕ) × Guesses Tight Holds t G
             by (inl (n, a)) = (
               n,
               record {

@@ -14,12 +14,11 @@ use Rattle.rules.proofs.Agree.{tight-agree}
 use Rattle.rules.proofs.Propers.{proper-inside}
 use Rattle.rules.proofs.Steps.{tightened}
 use Rattle.rules.proofs.Widest.{every-table}
-use Rattle.search_theory.specs.Search.{Outcome, none, gave-up, count, Search, OutcomeRight}
+use Rattle.search_theory.specs.Search.{Outcome, none, gave-up, count, Search, OutcomeRight, AnswerIs, answer-found, answer-none}
 use Rattle.search_theory.specs.Guesses.{Guesses}
 use Rattle.search_theory.proofs.Unique.{one-outcome}
 use Rattle.search_theory.proofs.Right.{right}
 use Rattle.search_theory.proofs.Inversion.{at-conflict}
-use Rattle.search_theory.proofs.Limit.{Answer, answer-found, answer-none}
 use Rattle.search_theory.proofs.Ceiling.{Within, ceiling, ceiling-answers}
 use Rattle.search_theory.proofs.Number.{gave-up-needed, some-number}
 use Rattle.search_theory.proofs.Inputs.{inputs-drive, inputs-stay, open-no-more}
@@ -56,10 +55,10 @@ module _ (w : List ℕ) (rs : List Rule) (t : Table) (proper : Proper w t) where
 
   module _ (m : ℕ) (inputs : Inputs rs t m) (u : Table) (tight : Widest (Tight w rs) t u) where
     -- at most 2^B - 1 guesses, B being the open bits of the first m words after the first tightening
-    pub count-below : (limit n : ℕ) (o : Outcome) → Search (Tight w rs) limit t 0 o → Answer o n → n < 2 ^ openBelow m u
+    pub count-below : (limit n : ℕ) (o : Outcome) → Search (Tight w rs) limit t 0 o → AnswerIs o n → n < 2 ^ openBelow m u
     count-below limit n o s a = go a (ceiling (Tight w rs) limit m t (inputs-drive w rs t m inputs) (proper-inside proper) tight s)
       where
-        go : {x : Outcome} → Answer x n → Within limit 0 (openBelow m u) x → n < 2 ^ openBelow m u
+        go : {x : Outcome} → AnswerIs x n → Within limit 0 (openBelow m u) x → n < 2 ^ openBelow m u
         go answer-found r = omega arith
         go answer-none r = omega arith
 

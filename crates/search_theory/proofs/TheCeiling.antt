@@ -16,9 +16,8 @@ use Rattle.rules.specs.Proper.{Proper}
 use Rattle.rules.specs.Tightening.{Widest}
 use Rattle.rules.proofs.Propers.{proper-inside}
 use Rattle.rules.proofs.LeastInputs.{least-inputs}
-use Rattle.search_theory.specs.Search.{Outcome, gave-up, Search}
+use Rattle.search_theory.specs.Search.{Outcome, gave-up, Search, AnswerIs}
 use Rattle.search_theory.specs.Ceiling.{Ceiling}
-use Rattle.search_theory.proofs.Limit.{Answer}
 use Rattle.search_theory.proofs.Inputs.{inputs-stay, open-no-more}
 use Rattle.search_theory.proofs.Problem.{count-below, limit-reached}
 
@@ -37,7 +36,7 @@ module _ (w : List ℕ) (rs : List Rule) (t : Table) (proper : Proper w t) where
 
   module _ (u : Table) (tight : Widest (Tight w rs) t u) (c : ℕ) (top : Ceiling rs t u c) where
     -- no more guesses than the ceiling
-    pub count-ceiling : (limit n : ℕ) (o : Outcome) → Search (Tight w rs) limit t 0 o → Answer o n → n ≤ c
+    pub count-ceiling : (limit n : ℕ) (o : Outcome) → Search (Tight w rs) limit t 0 o → AnswerIs o n → n ≤ c
     count-ceiling limit n o s a = omega (arith, top .number, count-below w rs t proper (top .words) (top .inputs) u tight limit n o s a)
 
     -- a limit that reaches the ceiling never gives up

@@ -43,3 +43,8 @@ abbrev pub OutcomeRight : (List ℕ → Type 0) → Table → Outcome → Type 0
 OutcomeRight Holds t (found v n) = First Holds t v
 OutcomeRight Holds t (none n) = Without Holds t
 OutcomeRight Holds t gave-up = Unit {0}
+
+-- an answer: FOUND or NONE, with its count
+pub data AnswerIs : Outcome → ℕ → Type 0 where
+  answer-found : {v : List ℕ} {n : ℕ} → AnswerIs (found v n) n
+  answer-none : {n : ℕ} → AnswerIs (none n) n

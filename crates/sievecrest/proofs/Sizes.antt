@@ -20,7 +20,8 @@ use Rattle.checker.proofs.Rooms.{has-room, taken}
 use Rattle.lists.proofs.Series.{length-series}
 use Rattle.tighten.specs.declared.Answer.{Answer}
 use Rattle.tighten.specs.Promise as Tighten
-use Rattle.search_theory.proofs.Limit.{answer-found, answer-none, count-limit}
+use Rattle.search_theory.specs.Search.{answer-found, answer-none}
+use Rattle.search_theory.proofs.Limit.{count-limit}
 use Rattle.solve.specs.declared.Solved.{Solved}
 use Rattle.solve.specs.Promise as Solve
 use Rattle.reason_theory.specs.Says as Says
@@ -29,7 +30,8 @@ use Rattle.reason_theory.proofs.Listed.{reason-length}
 use Rattle.explain.specs.declared.Explained.{Explained}
 use Rattle.explain.specs.Promise as Explain
 use Rattle.cause_theory.specs.Cause as Cause
-use Rattle.cause_theory.proofs.Sum.{sum, sum-limit, named-rules}
+use Rattle.cause_theory.specs.Cause.{sumOf}
+use Rattle.cause_theory.proofs.Sum.{sum-limit, named-rules}
 use Rattle.cause.specs.declared.Caused.{Caused}
 use Rattle.cause.specs.Promise as Causing
 use Rattle.blocks.specs.declared.Reading.{Reading}
@@ -113,7 +115,7 @@ module _ {limit : ℕ} {ws bs s l : List ℕ} where
   passed-fine g = ok-fine limit ws bs (has-room Causing.causeWork (length l) (ruleCount bs) (length s) (refusalWith limit ws bs) (g .passed) .2)
 
   -- 253 searches of at most 1,000,000 guesses each
-  sum-within : {x : Cause.Cause} → Causing.CauseGiven limit ws bs s l → Causing.Named limit ws bs x → sum x < 4294967296
+  sum-within : {x : Cause.Cause} → Causing.CauseGiven limit ws bs s l → Causing.Named limit ws bs x → sumOf x < 4294967296
   sum-within g x =
       let f = passed-fine g in
       let few : suc (length (rulesOf bs)) ≤ 253 = omega (arith, f .sized .rules, length-series (ruleCount bs) (ruleAt bs)) in

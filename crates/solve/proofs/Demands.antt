@@ -8,7 +8,6 @@ use lib.ListN.{length, take, length-take}
 use lib.Seq.{ext-getD, getD-take}
 use Rattle.words.specs.Table.{Table}
 use Rattle.lists.specs.Lists.{at}
-use Rattle.rules.specs.Tight.{Tight, AllHold}
 use Rattle.rules.specs.Proper.{Proper}
 use Rattle.rules.specs.Tightening.{Widest, Conflict}
 use Rattle.checker.specs.declared.Checked.the-variants.{Refused}
@@ -16,26 +15,18 @@ use Rattle.problem.specs.Lent.{wordCount, widthsOf, tableOf, rulesOf, loAt}
 use Rattle.lists.proofs.Series.{length-series}
 use Rattle.tighten.specs.Memory.{Cleared}
 use Rattle.search_theory.specs.Settings.{First, Without}
-use Rattle.search_theory.specs.Search.{Outcome, found, none, gave-up, count}
+use Rattle.search_theory.specs.Search.{Outcome, found, none, gave-up, count, answer-found, answer-none}
 use Rattle.search_theory.specs.Guesses.{Answers, answers-found, answers-none, Guesses}
 use Rattle.search_theory.specs.Ceiling.{Ceiling}
-use Rattle.search_theory.proofs.Limit.{answer-found, answer-none}
 use Rattle.search_theory.proofs.Outcomes.{found-not-none, none-not-gave-up}
 use Rattle.search_theory.proofs.Problem.{outcome-right, gave-up-just, conflict-no-guess}
 use Rattle.search_theory.proofs.TheCeiling.{count-ceiling, ceiling-reached}
 use Rattle.solve.specs.declared.Solved.{Solved}
 use Rattle.solve.specs.declared.Solved.the-variants as answer
 use Rattle.solve.specs.Promise.{solveRefusal, Comes, Solving, refused, found-first, found-none, gave-up-at, Answered, reached-found, reached-none}
-use Rattle.solve.specs.Promise.{not-reached, SolveGiven}
+use Rattle.solve.specs.Promise.{Holding, Tightly, not-reached, SolveGiven}
 use Rattle.solve.proofs.Calling.{model-room, fine}
 use Rattle.solve.proofs.Once.{comes-once}
-
--- the rules hold, and the notion of tight, of the lent problem
-abbrev Holding : List ℕ → List ℕ → List ℕ → Type 0
-Holding ws bs = AllHold (widthsOf ws) (rulesOf bs)
-
-abbrev Tightly : List ℕ → List ℕ → Table → Type 0
-Tightly ws bs = Tight (widthsOf ws) (rulesOf bs)
 
 -- what is answered where an outcome is come to
 abbrev answerTo : ℕ → Outcome → Solved

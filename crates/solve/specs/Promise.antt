@@ -3,6 +3,7 @@ use mathlib.Core.Path.{_≡_}
 use mathlib.Core.List.{List}
 use Prim.Native.Nat.{ℕ, _≤_, _<_}
 use lib.ListN.{length}
+use Rattle.words.specs.Table.{Table}
 use Rattle.lists.specs.Lists.{at}
 use Rattle.rules.specs.Tight.{Tight, AllHold}
 use Rattle.checker.specs.declared.Checked.{Checked}
@@ -61,3 +62,11 @@ pub data Answered (limit G : ℕ) (ws bs : List ℕ) : Solved → Type 0 where
   reached-found : {v : List ℕ} → G ≤ limit → FirstSettings ws bs v → Answered limit G ws bs (answer.Found G)
   reached-none : G ≤ limit → NoSettings ws bs → Answered limit G ws bs (answer.Nothing G)
   not-reached : limit < G → Answered limit G ws bs (answer.GaveUp limit)
+
+-- all rules of the lent problem hold; a table is tight for them
+-- the rules hold, and the notion of tight, of the lent problem
+abbrev pub Holding : List ℕ → List ℕ → List ℕ → Type 0
+Holding ws bs = AllHold (widthsOf ws) (rulesOf bs)
+
+abbrev pub Tightly : List ℕ → List ℕ → Table → Type 0
+Tightly ws bs = Tight (widthsOf ws) (rulesOf bs)

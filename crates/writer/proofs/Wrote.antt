@@ -14,7 +14,8 @@ use Rattle.blocks.specs.Edition.{Form, edition1}
 use Rattle.blocks.specs.Written.{held, block, blocksOf, wordBlocks, ruleBlocks, fileOf, encode}
 use Rattle.blocks.proofs.Block.{length-block}
 use Rattle.blocks.proofs.Numbers.{length-le}
-use Rattle.blocks.proofs.Fair.{Fits, fair1}
+use Rattle.blocks.specs.Fair.{FormFits}
+use Rattle.blocks.proofs.Fair.{fair1}
 use Rattle.blocks.proofs.Sequence.{length-each, length-blocksOf}
 use Rattle.lists.proofs.Puts.{put-put}
 use Rattle.writer.specs.Items.{Narrow, itemsFrom, rulesFrom, wordsUpTo, rulesUpTo}
@@ -24,7 +25,8 @@ use Rattle.writer.proofs.Filled.{flat-start, flat-turn, words-as-items}
 part-put : (f ys : List ℕ) (a e : ℕ) → e ≡ a + 512 → length ys ≡ 512 → putMid a (e - a) f ys ≡ put f a ys
 part-put f ys a e q h = let z : e - a ≡ 512 = omega arith in rw (z, h, drop-drop)
 
-module _ (kind : ℕ) (F : Form) (fits : Fits F) (first n : ℕ) (bytes : ℕ → List ℕ) (sized : (j : ℕ) → length (bytes j) ≡ F .size) (f : List ℕ) (base : ℕ) where
+module _ (kind : ℕ) (F : Form) (fits : FormFits F) (first n : ℕ) (bytes : ℕ → List ℕ) (sized : (j : ℕ)
+    → length (bytes j) ≡ F .size) (f : List ℕ) (base : ℕ) where
   blocks-start : f ≡ put f base (blocksOf edition1 kind (F .most) first n bytes 0)
   unfolding blocksOf
   blocks-start = flat-start f base _
