@@ -121,7 +121,7 @@ def places():
     yield "MAX_WIDTH", SPECS, r"^  pub high : w ≤ (\d+)$"
     for name in "TIGHTEN SOLVE CAUSE".split():
         yield name + "_WORK", f"crates/{name.lower()}/src/lib.rt", constant("WORK")
-        yield name + "_WORK", f"crates/{name.lower()}/specs/Promise.antt", definition("workLength")
+        yield name + "_WORK", f"crates/{name.lower()}/specs/Promise.antt", definition(name.lower() + "Work")
     yield "REASON_ENTRIES", "crates/explain/src/lib.rt", constant("ENTRIES")
     yield "REASON_ENTRIES", "crates/explain/specs/Promise.antt", definition("entries")
     yield "LINES_BYTES", "crates/report/src/lib.rt", constant("MOST")
@@ -173,8 +173,10 @@ def in_crates(tally):
         else:
             wanted[name] = number
     listed(tally, "crates/*/specs/Kinds.antt", r"(?:op|rel) ([A-Z]+) ∷")
-    listed(tally, "crates/*/src/rows.rt", r"^    \[[\d, ]+\], // ([A-Z]+)$")
-    wanted.update(("KIND_" + kind, i) for i, kind in enumerate(KINDS, 1))
+    listed(tally, "crates/*/src/kinds.rt", r"^    \[[\d, ]+\], // ([A-Z]+)$")
+    for i, kind in enumerate(KINDS, 1):
+        tally.same(f"{kind} of crates/problem/src/kinds.rt", number_at(tally, kind, "crates/problem/src/kinds.rt", constant(kind)), i)
+        wanted["KIND_" + kind] = i
     wanted.update(shifts(tally))
     tally.same("advise asks for the work memory of cause", "work.len() < cause::WORK " in text_of("crates/report/src/lib.rt"), True)
     wanted["ADVISE_WORK"] = wanted["CAUSE_WORK"]
