@@ -41,7 +41,7 @@ module _ {ws bs l : List ℕ} (ready : Ready ws bs l) (j : ℕ) (listed : j < ru
   shape-same = shape-read ws bs (ready .sized .whole-words) j
 
   span-same : spanOf (workBounds l (fieldsAt bs j)) ≡ span (tableIn (wordCount ws) l) (ruleAt bs j)
-  unfolding fieldsAt workBounds
+  unfolding fieldsAt
   span-same = λ i. record { lo = fun-ext low i; hi = fun-ext high i }
     where
       low : (p : Place) → loOf (workBounds l (fieldsAt bs j)) p ≡ at (tableIn (wordCount ws) l .lo) (word (ruleAt bs j) p)

@@ -12,7 +12,7 @@ use Rattle.tighten.specs.declared.Met.{Met}
 use Rattle.problem.specs.declared.Fields.{Fields}
 
 -- the bounds of the words at a rule's places
-unfoldable pub workBounds : List ℕ → Fields → Bounds
+abbrev pub workBounds : List ℕ → Fields → Bounds
 workBounds l x = record {
   rl = at l (x .r);
   rh = at l (x .r + 32);
