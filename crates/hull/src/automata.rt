@@ -4,7 +4,7 @@ ghost use mathlib.Core.Path.{_≡_};
 ghost use Prim.Native.Nat.{_<_};
 ghost use Rattle.hull.specs.Automata.{autoOf};
 
-// The masks of each kind, by its number (sweep.rt says what a mask is): the columns from state 0 to 0, 0 to 1, 1 to 0 and 1 to 1. Kinds that move bits have none.
+// The masks of each kind, by its number: the columns from state 0 to 0, 0 to 1, 1 to 0 and 1 to 1; sweep.rt explains masks. Kinds that move bits have none.
 const T00: [u64; 15] = [0, 0, 0, 135, 225, 105, 97, 165, 0, 0, 0, 0, 221, 221, 153];
 
 const T01: [u64; 15] = [0, 0, 0, 0, 0, 0, 8, 0, 0, 0, 0, 0, 34, 34, 102];
