@@ -4,3 +4,4 @@ pub mod Checks
 pub mod Boards
 pub mod Cases
 pub mod Rises
+pub mod LongShifts

@@ -78,7 +78,7 @@ module _ (limit : ℕ) (ws bs : List ℕ) where
   fault-unmet (no-fit l f) m = f (m l)
   fault-unmet (many-guesses o) m = omega arith
 
-  -- SLICE one bit too long, JOIN of another width than its parts together, and a shift by the width or more do not fit
+  -- SLICE one bit too long, JOIN of another width than its parts together, and a shift of a word of another width do not fit
   module _ (w : Place → ℕ) (k : ℕ) where
     pub long-slice : w A < k + w R → ¬ Fitting (op SLICE) w k
     long-slice l f = omega arith
@@ -86,8 +86,8 @@ module _ (limit : ℕ) (ws bs : List ℕ) where
     pub other-join : w R ≢ w A + w B → ¬ Fitting (op JOIN) w k
     other-join e f = e f
 
-    pub long-shl : w R ≤ k → ¬ Fitting (op SHL) w k
-    long-shl l f = omega arith
+    pub other-shl : w R ≢ w A → ¬ Fitting (op SHL) w k
+    other-shl e f = e f
 
-    pub long-shr : w R ≤ k → ¬ Fitting (op SHR) w k
-    long-shr l f = omega arith
+    pub other-shr : w R ≢ w A → ¬ Fitting (op SHR) w k
+    other-shr e f = e f

@@ -11,7 +11,7 @@ use Rattle.problem.specs.Reading.{ruleOf, widthsAt}
 use Rattle.problem.specs.declared.Fields.{Fields}
 use Rattle.rules.specs.Kinds.{R, A, B, S, kindOf}
 use Rattle.problem.specs.Places.{widthOf}
-use Rattle.rules.specs.Rows.{Class, equal-r-a, equal-r-a-b, chosen, part, joined, shifted, equal-a-b, class}
+use Rattle.rules.specs.Rows.{Class, equal-r-a, equal-r-a-b, chosen, part, joined, equal-a-b, class}
 use Rattle.rules.specs.Tight.{word}
 use Rattle.problem.specs.declared.Widths.{Widths}
 use Rattle.problem.specs.Lent.{widthAt}
@@ -45,19 +45,17 @@ class-of equal-r-a-b = refl
 class-of chosen = refl
 class-of part = refl
 class-of joined = refl
-class-of shifted = refl
 class-of equal-a-b = refl
 
 -- the last class stands behind all other numbers
-pub last-class : (c : ℕ) → c ≢ 0 → c ≢ 1 → c ≢ 2 → c ≢ 3 → c ≢ 4 → c ≢ 5 → classOf c ≡ equal-a-b
+pub last-class : (c : ℕ) → c ≢ 0 → c ≢ 1 → c ≢ 2 → c ≢ 3 → c ≢ 4 → classOf c ≡ equal-a-b
 unfolding classOf
-last-class zero z a b c d e = absurd (z refl)
-last-class (suc zero) z a b c d e = absurd (a refl)
-last-class (suc (suc zero)) z a b c d e = absurd (b refl)
-last-class (suc (suc (suc zero))) z a b c d e = absurd (c refl)
-last-class (suc (suc (suc (suc zero)))) z a b c d e = absurd (d refl)
-last-class (suc (suc (suc (suc (suc zero))))) z a b c d e = absurd (e refl)
-last-class (suc (suc (suc (suc (suc (suc n)))))) z a b c d e = refl
+last-class zero z a b c d = absurd (z refl)
+last-class (suc zero) z a b c d = absurd (a refl)
+last-class (suc (suc zero)) z a b c d = absurd (b refl)
+last-class (suc (suc (suc zero))) z a b c d = absurd (c refl)
+last-class (suc (suc (suc (suc zero)))) z a b c d = absurd (d refl)
+last-class (suc (suc (suc (suc (suc n))))) z a b c d = refl
 
 -- ---- the fit of a rule by its row's number and the widths of its words
 

@@ -7,7 +7,7 @@ use lib.Dec.{T, eqb, leb, eqb→eq, eqb-refl, leb→le, le→leb, ltb→lt, lt�
 use lib.ListN.{length}
 use Rattle.words.specs.Word.{Width}
 use Rattle.rules.specs.Kinds.{Place, R, A, B, S, kindOf}
-use Rattle.rules.specs.Rows.{Class, equal-r-a, equal-r-a-b, chosen, part, joined, shifted, equal-a-b, class, uses, FitsAs, Fitting}
+use Rattle.rules.specs.Rows.{Class, equal-r-a, equal-r-a-b, chosen, part, joined, equal-a-b, class, uses, FitsAs, Fitting}
 use Rattle.rules.specs.Tight.{Rule, word}
 use Rattle.rules.specs.ProperProblem.{usesK, kinds, KindNumber, Fields, most-words}
 use Rattle.lists.proofs.Bools.{both}
@@ -117,7 +117,6 @@ fits-met chosen w k t =
     (eqb→eq _ _ a, eqb→eq _ _ b, eqb→eq _ _ s)
 fits-met part w k t = leb→le _ _ t
 fits-met joined w k t = eqb→eq _ _ t
-fits-met shifted w k t = let (a, l) = both (eqb (w R) (w A)) _ t in (eqb→eq _ _ a, ltb→lt _ _ l)
 fits-met equal-a-b w k t = eqb→eq _ _ t
 
 pub met-fits : (x : Class) (w : Place → ℕ) (k : ℕ) → FitsAs x w k → T (fitsAs x w k)
@@ -127,7 +126,6 @@ met-fits chosen w k h =
     pair (eqb (w R) (w A)) _ (eq-test _ _ (h .0)) (pair (eqb (w R) (w B)) _ (eq-test _ _ (h .1)) (eq-test _ _ (h .2)))
 met-fits part w k h = le→leb _ _ h
 met-fits joined w k h = eq-test _ _ h
-met-fits shifted w k h = pair (eqb (w R) (w A)) _ (eq-test _ _ (h .0)) (lt→ltb _ _ (h .1))
 met-fits equal-a-b w k h = eq-test _ _ h
 
 module _ (ws : List ℕ) (ρ : Rule) where

@@ -5,7 +5,7 @@ use Prim.Native.Nat.{ℕ, _+_, _%_}
 use lib.Dec.{eqb, leb, ltb}
 use lib.ListN.{length}
 use Rattle.rules.specs.Kinds.{Place, R, A, B, S, kindOf}
-use Rattle.rules.specs.Rows.{Class, equal-r-a, equal-r-a-b, chosen, part, joined, shifted, equal-a-b, class, uses}
+use Rattle.rules.specs.Rows.{Class, equal-r-a, equal-r-a-b, chosen, part, joined, equal-a-b, class, uses}
 use Rattle.rules.specs.Tight.{Rule, word}
 use Rattle.rules.specs.ProperProblem.{kinds, usesK, most-words, most-rules}
 use Rattle.problem.specs.Lent.{stride, fields, wordCount, widthAt, ruleCount}
@@ -43,7 +43,6 @@ fitsAs equal-r-a-b w k = eqb (w R) (w A) && eqb (w R) (w B)
 fitsAs chosen w k = eqb (w R) (w A) && (eqb (w R) (w B) && eqb (w S) 1)
 fitsAs part w k = leb (k + w R) (w A)
 fitsAs joined w k = eqb (w R) (w A + w B)
-fitsAs shifted w k = eqb (w R) (w A) && ltb k (w R)
 fitsAs equal-a-b w k = eqb (w A) (w B)
 
 -- what a rule's kind asks of the widths of its words, and of k

@@ -36,8 +36,6 @@ pub fn fits(class: u8, w: Widths, k: u64) -> bool
         3 => is_part(w.r, w.a, k),
         // r as wide as a and b together
         4 => is_sum(w.r, w.a, w.b),
-        // r and a equal, k below
-        5 => (w.r == w.a) & (k < w.r),
         // a and b equal
         _ => w.a == w.b,
     }

@@ -36,7 +36,7 @@ narrowed-hull (op SLICE) k w t l = slice-kind-narrows k (widthOf w) t (l .width 
 narrowed-hull (op JOIN) k w t l =
     join-narrows k (widthOf w) t (w .a) (omega (arith, l .fitting, l .width R tt .high)) (l .bounded A tt) (l .bounded B tt)
 narrowed-hull (op SHL) k w t l = shl-narrows k (widthOf w) t (l .width R tt .high) (l .bounded A tt .under)
-narrowed-hull (op SHR) k w t l = shr-narrows k (widthOf w) t (l .width A tt .high) (l .bounded A tt) (l .fitting .0)
+narrowed-hull (op SHR) k w t l = shr-narrows k (widthOf w) t (l .width A tt .high) (l .bounded A tt) (l .fitting)
 narrowed-hull (rel ULE) k w t l = ule-narrows k (widthOf w) t l
 narrowed-hull (rel ULT) k w t l = ult-narrows k (widthOf w) t l
 narrowed-hull (rel NE) k w t l = ne-narrows k (widthOf w) t l

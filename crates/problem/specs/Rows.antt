@@ -5,12 +5,12 @@ use Prim.Native.Nat.{ℕ, zero, suc}
 use lib.ListN.{getD}
 use Rattle.words.specs.Bits.{one}
 use Rattle.rules.specs.Kinds.{R, A, B, S, Kind}
-use Rattle.rules.specs.Rows.{Class, equal-r-a, equal-r-a-b, chosen, part, joined, shifted, equal-a-b, class, uses}
+use Rattle.rules.specs.Rows.{Class, equal-r-a, equal-r-a-b, chosen, part, joined, equal-a-b, class, uses}
 use Rattle.rules.specs.ProperProblem.{usesK}
 
 -- classes by their numbers, from 0
 unfoldable pub classOf : ℕ → Class
-classOf n = getD (equal-r-a ∷ equal-r-a-b ∷ chosen ∷ part ∷ joined ∷ shifted ∷ []) n equal-a-b
+classOf n = getD (equal-r-a ∷ equal-r-a-b ∷ chosen ∷ part ∷ joined ∷ []) n equal-a-b
 
 abbrev pub classNumber : Class → ℕ
 classNumber equal-r-a = 0
@@ -18,8 +18,7 @@ classNumber equal-r-a-b = 1
 classNumber chosen = 2
 classNumber part = 3
 classNumber joined = 4
-classNumber shifted = 5
-classNumber equal-a-b = 6
+classNumber equal-a-b = 5
 
 -- whether a kind uses a field of its rule, by the field's number: 1 to 5 for r, a, b, s and k
 abbrev pub usesField : Kind → ℕ → Bool

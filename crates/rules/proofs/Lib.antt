@@ -1,6 +1,7 @@
 pub mod SmtLibNumbers
 pub mod SmtLibKinds
 pub mod SmtLib
+pub mod Shifted
 pub mod OwnPlaces
 pub mod Used
 pub mod Hulls

@@ -30,7 +30,7 @@ result-smtlib ITE w k a b s e la lb ls = ite-smtlib w k a b s (rw (e .0) la) (rw
 result-smtlib SLICE w k a b s e la lb ls = slice-smtlib w k a b s
 result-smtlib JOIN w k a b s e la lb ls = join-smtlib w k a b s e la (lb tt)
 result-smtlib SHL w k a b s e la lb ls = shl-smtlib w k a b s
-result-smtlib SHR w k a b s e la lb ls = shr-smtlib w k a b s (rw (e .0) la)
+result-smtlib SHR w k a b s e la lb ls = shr-smtlib w k a b s (rw e la)
 
 if-lt : (c : Bool) (x y : ℕ) → x < 2 → y < 2 → (if c then x else y) < 2
 if-lt true x y p q = p

@@ -1,7 +1,7 @@
 -- To be believed: the fixed table of fourteen rows: the places that each kind uses, and how the widths there, and k, must fit.
 use mathlib.Core.Path.{_≡_}
 use mathlib.Core.Bool.{Bool, true, false}
-use Prim.Native.Nat.{ℕ, _+_, _≤_, _<_}
+use Prim.Native.Nat.{ℕ, _+_, _≤_}
 use Rattle.rules.specs.Kinds.{Place, R, A, B, S, Op, COPY, NOT, AND, OR, XOR, ADD, ITE, SLICE, JOIN, SHL, SHR, Kind, op, rel}
 
 -- the operands that a computing kind uses beside r
@@ -10,7 +10,7 @@ pub data Operands : Type 0 where
 
 -- how widths must fit
 pub data Class : Type 0 where
-  equal-r-a equal-r-a-b chosen part joined shifted equal-a-b : Class
+  equal-r-a equal-r-a-b chosen part joined equal-a-b : Class
 
 abbrev pub row : Op → Operands
 row COPY = a-only
@@ -35,8 +35,8 @@ class (op ADD) = equal-r-a-b
 class (op ITE) = chosen
 class (op SLICE) = part
 class (op JOIN) = joined
-class (op SHL) = shifted
-class (op SHR) = shifted
+class (op SHL) = equal-r-a
+class (op SHR) = equal-r-a
 class (rel x) = equal-a-b
 
 abbrev pub operand : Operands → Place → Bool
@@ -60,14 +60,13 @@ uses (rel x) A = true
 uses (rel x) B = true
 uses (rel x) S = false
 
--- what a class asks of the widths w of the places, and of k
+-- what a class asks of the widths w of the places, and of k: of k only `part` asks something, so a shift may have any k
 abbrev pub FitsAs : Class → (Place → ℕ) → ℕ → Type 0
 FitsAs equal-r-a w k = w R ≡ w A
 FitsAs equal-r-a-b w k = (w R ≡ w A) × (w R ≡ w B)
 FitsAs chosen w k = (w R ≡ w A) × (w R ≡ w B) × (w S ≡ 1)
 FitsAs part w k = k + w R ≤ w A
 FitsAs joined w k = w R ≡ w A + w B
-FitsAs shifted w k = (w R ≡ w A) × (k < w R)
 FitsAs equal-a-b w k = w A ≡ w B
 
 abbrev pub Fitting : Kind → (Place → ℕ) → ℕ → Type 0

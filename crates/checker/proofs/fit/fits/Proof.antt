@@ -32,13 +32,9 @@ unfolding classOf
 returns-5 c = rw (c .before .match .keys5) (c .is-sum .ensures)
 
 returns-6 : tie.Need-returns-6
-unfolding classOf
-returns-6 c = rw (c .before .before .match .keys6)
-
-returns-7 : tie.Need-returns-7
-returns-7 c =
+returns-6 c =
     let n = c .before .match .rest in
-    rw (last-class (c .before .before .args .class) (n .0 .0 .0 .0 .0 .1) (n .0 .0 .0 .0 .1) (n .0 .0 .0 .1) (n .0 .0 .1) (n .0 .1) (n .1))
+    rw (last-class (c .before .before .args .class) (n .0 .0 .0 .0 .1) (n .0 .0 .0 .1) (n .0 .0 .1) (n .0 .1) (n .1))
 
 pub fits-spec : {M : Type 1} → statement M
 fits-spec =
@@ -51,5 +47,4 @@ fits-spec =
     returns-3
     returns-4
     returns-5
-    returns-6
-    returns-7)
+    returns-6)
