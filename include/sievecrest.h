@@ -100,7 +100,7 @@ It prints
 #define SIEVECREST_REFUSED_TABLE 5   /* lo has a 1 where hi has 0, or a bound is wider than the word; the word */
 #define SIEVECREST_REFUSED_KIND 6    /* a kind that is not 1 to 14; the rule */
 #define SIEVECREST_REFUSED_FIELD 7   /* a word that is not there, or an unused field that is not 0; the rule */
-#define SIEVECREST_REFUSED_FIT 8     /* widths or k; the rule */
+#define SIEVECREST_REFUSED_FIT 8     /* widths, or the k of a SLICE; the rule */
 #define SIEVECREST_REFUSED_LIMIT 9   /* a limit over SIEVECREST_MAX_LIMIT; place 0 */
 #define SIEVECREST_REFUSED_ASK 10    /* an explanation of what is no open bit of a rule's place; place 0 */
 #define SIEVECREST_REFUSED_EMPTY 11  /* a cause without any rule, which is proved never to come; place 0 */
@@ -127,8 +127,8 @@ It prints
 #define SIEVECREST_KIND_ITE 7
 #define SIEVECREST_KIND_SLICE 8
 #define SIEVECREST_KIND_JOIN 9
-#define SIEVECREST_KIND_SHL 10
-#define SIEVECREST_KIND_SHR 11
+#define SIEVECREST_KIND_SHL 10    /* k may be 0 to 255: at the width of r, or above, r is 0 */
+#define SIEVECREST_KIND_SHR 11    /* likewise */
 #define SIEVECREST_KIND_ULE 12
 #define SIEVECREST_KIND_ULT 13
 #define SIEVECREST_KIND_NE 14
@@ -273,7 +273,7 @@ static inline const char *sievecrest_refusal_text(uint32_t number) {
     case SIEVECREST_REFUSED_KIND: return "the rule's kind is not 1 to 14; use the number of a kind";
     case SIEVECREST_REFUSED_FIELD:
         return "the rule names a word that is not there, or sets a field that its kind does not use; name a word, or clear the field";
-    case SIEVECREST_REFUSED_FIT: return "the rule's widths, or its k, do not fit; compare the widths with what its kind asks for";
+    case SIEVECREST_REFUSED_FIT: return "the rule's widths, or the k of a SLICE, do not fit; compare the widths with what its kind asks for";
     case SIEVECREST_REFUSED_LIMIT: return "the limit is over 1000000; give a smaller one";
     case SIEVECREST_REFUSED_ASK: return "no such rule, a place that its kind does not use, or a bit not below the width or not open; ask for an open bit";
     case SIEVECREST_REFUSED_EMPTY: return "a cause without any rule, which is proved never to come; report it with the problem";

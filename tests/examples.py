@@ -31,8 +31,8 @@ ADD a = b c
 ITE a = b if s else c
 SLICE a = d 4
 JOIN d = a b
-SHL a = b 3
-SHR a = b 0
+SHL a = b 4
+SHR a = b 255
 ULE a b
 ULT a b
 NE a b
@@ -53,8 +53,8 @@ ADD w0 = w1 w2  # rule 5
 ITE w0 = w1 if w4 else w2  # rule 6
 SLICE w0 = w3 4  # rule 7
 JOIN w3 = w0 w1  # rule 8
-SHL w0 = w1 3  # rule 9
-SHR w0 = w1 0  # rule 10
+SHL w0 = w1 4  # rule 9
+SHR w0 = w1 255  # rule 10
 ULE w0 w1  # rule 11
 ULT w0 w1  # rule 12
 NE w0 w1  # rule 13
@@ -82,7 +82,8 @@ FAULTS = (
     ("limit 1\nword a 4\nITE a = a if a else a", "line 3: r has width 4, a has width 4, b has width 4, s has width 4; s must have width 1"),
     ("limit 1\nword a 4\nSLICE a = a 1", "line 3: r has width 4, a has width 4, and k is 1"),
     ("limit 1\nword a 4\nJOIN a = a a", "line 3: r has width 4, a has width 4, b has width 4; r needs width 8"),
-    ("limit 1\nword a 4\nSHR a = a 4", "line 3: the shift is 4, and must be 0 to 3"),
+    ("limit 1\nword a 4\nSHR a = a 256", "line 3: k is 256, and must be 0 to 255"),
+    ("limit 1\nword a 4\nword b 5\nSHL a = b 1", "line 4: r has width 4, a has width 5; they must be equal"),
     ("limit 1\n" + "".join(f"word a{i} 1\n" for i in range(33)), "line 34: a board has at most 32 words"),
     ("limit 1\nword a 1\n" + 253 * "NE a a\n", "line 255: a board has at most 252 rules"),
     ("limit 1\0", "this is no text"),

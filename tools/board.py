@@ -94,8 +94,6 @@ def fit(kind, form, fields, words):
         raise Fault(f"{given}; they must be equal{' but for s' if kind == 'ITE' else ''}, so widen one with JOIN or narrow one with SLICE")
     elif width.get("s", 1) != 1:
         raise Fault(f"{given}; s must have width 1, so take one bit out with SLICE")
-    elif k >= width["a"]:
-        raise Fault(f"the shift is {k}, and must be 0 to {width['a'] - 1} at width {width['a']}")
 
 
 def rule(kind, items, words, names):

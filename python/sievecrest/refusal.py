@@ -21,7 +21,7 @@ SENTENCES = {
     Fault.TABLE: "the word's lo has a 1 where hi has 0, or a bound has a 1 at or above the width; look at what the board fixes",
     Fault.KIND: "the rule's kind is not 1 to 14; use the number of a kind",
     Fault.FIELD: "the rule names a word that is not there, or sets a field that its kind does not use; name a word, or clear the field",
-    Fault.FIT: "the rule's widths, or its k, do not fit; compare the widths with what its kind asks for",
+    Fault.FIT: "the rule's widths, or the k of a SLICE, do not fit; compare the widths with what its kind asks for",
     Fault.LIMIT: "the limit is over 1000000; give a smaller one",
     Fault.ASK: "no such rule, a place that its kind does not use, or a bit not below the width or not open; ask for an open bit",
     Fault.EMPTY: "a cause without any rule, which is proved never to come; report it with the problem",

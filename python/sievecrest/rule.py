@@ -98,12 +98,12 @@ class Rule:
 
     @classmethod
     def shl(cls, r, a, k):
-        """r = a shifted up by k, zeros enter. Equal widths; k is at most w - 1."""
+        """r = a shifted up by k, zeros enter. Equal widths; a k of the width or more gives 0."""
         return cls(Kind.SHL, r=r, a=a, k=k)
 
     @classmethod
     def shr(cls, r, a, k):
-        """r = a shifted down by k, zeros enter. Equal widths; k is at most w - 1."""
+        """r = a shifted down by k, zeros enter. Equal widths; a k of the width or more gives 0."""
         return cls(Kind.SHR, r=r, a=a, k=k)
 
     @classmethod

@@ -98,7 +98,7 @@ class Boards(unittest.TestCase):
             (Problem([fixed] * WORDS), Problem([fixed] * (WORDS + 1)), Fault.SIZE),
             (Problem([fixed], [Rule.ule(0, 0)] * RULES), Problem([fixed], [Rule.ule(0, 0)] * (RULES + 1)), Fault.SIZE),
             (Problem(four, [Rule.slice(0, 1, 4)]), Problem(four, [Rule.slice(0, 1, 5)]), Fault.FIT),
-            (Problem(four, [Rule.shl(0, 0, 3)]), Problem(four, [Rule.shl(0, 0, 4)]), Fault.FIT),
+            (Problem(four, [Rule.shl(0, 0, 255)]), Problem(four, [Rule.shl(0, 1, 0)]), Fault.FIT),
         ]
         for passes, refused, fault in cases:
             self.assertIsNone(passes.check())
@@ -107,6 +107,15 @@ class Boards(unittest.TestCase):
                 with self.assertRaises(Refusal) as caught:
                     call()
                 self.assertEqual(caught.exception, Refusal(fault, 0))
+
+    def test_l_a_shift_may_be_as_long_as_the_word_and_longer(self):
+        for rule in (Rule.shl(0, 1, 4), Rule.shr(0, 1, 4), Rule.shl(0, 1, 255), Rule.shr(0, 1, 255)):
+            board = Problem([Word.open(4), Word.open(4)], [rule], limit=4)
+            self.assertIsNone(board.check(), rule)
+            self.assertEqual(board.tighten(), Tight([Word.fixed(4, 0), Word.open(4)]), rule)
+            self.assertEqual(board.solve(), Found([0, 0], 4), rule)
+            self.assertEqual(board.explain(0, Place.R, 3), Forced(0, []), rule)
+            self.assertEqual(board.explain(0, Place.A, 3), Free(), rule)
 
     def test_a_reason_may_be_empty(self):
         self.assertEqual(Problem([Word.open(4), Word.open(4)], [Rule.shl(0, 1, 2)]).explain(0, Place.R, 1), Forced(0, []))
@@ -131,6 +140,8 @@ class Boards(unittest.TestCase):
             (Rule.join(3, 0, 1), 8, 202),
             (Rule.shl(3, 0, 1), 4, 8),
             (Rule.shr(3, 0, 2), 4, 3),
+            (Rule.shl(3, 0, 4), 4, 0),
+            (Rule.shr(3, 0, 64), 4, 0),
         ]
         for rule, width, value in cases:
             self.assertEqual(Problem(fixed + [Word.open(width)], [rule]).solve(), Found([12, 10, 0, value], 0), rule)

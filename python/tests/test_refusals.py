@@ -44,7 +44,7 @@ def faulty():
         yield with_rule(dataclasses.replace(add, kind=kind)), Fault.KIND, 1
     for rule in (Rule.add(0, 0, 3), Rule.add(255, 0, 1), dataclasses.replace(add, s=2), dataclasses.replace(Rule.ne(0, 1), k=1)):
         yield with_rule(rule), Fault.FIELD, 1
-    for rule in (Rule.add(0, 1, 2), Rule.ite(0, 0, 1, 1), Rule.shr(0, 1, 4), Rule.join(0, 1, 2)):
+    for rule in (Rule.add(0, 1, 2), Rule.ite(0, 0, 1, 1), Rule.shr(0, 2, 1), Rule.join(0, 1, 2)):
         yield with_rule(rule), Fault.FIT, 1
 
 

@@ -19,7 +19,7 @@ pub const REFUSED_TABLE: u64 = 5;
 pub const REFUSED_KIND: u64 = 6;
 /// A word number that is not below the word count, or an unused field that is not 0.
 pub const REFUSED_FIELD: u64 = 7;
-/// Widths, or k, that do not fit.
+/// Widths, or the k of a SLICE, that do not fit.
 pub const REFUSED_FIT: u64 = 8;
 /// A limit over 1,000,000.
 pub const REFUSED_LIMIT: u64 = 9;

@@ -60,7 +60,7 @@ impl Refusal {
             REFUSED_FIELD => {
                 "the rule names a word that is not there, or sets a field that its kind does not use; name a word, or clear the field"
             }
-            REFUSED_FIT => "the rule's widths, or its k, do not fit; compare the widths with what its kind asks for",
+            REFUSED_FIT => "the rule's widths, or the k of a SLICE, do not fit; compare the widths with what its kind asks for",
             REFUSED_LIMIT => "the limit is over 1000000; give a smaller one",
             REFUSED_ASK => "no such rule, a place that its kind does not use, or a bit not below the width or not open; ask for an open bit",
             REFUSED_EMPTY => "a cause without any rule, which is proved never to come; report it with the problem",

@@ -135,12 +135,12 @@ impl Rule {
         Rule::new(Kind::Join, r, a, b, 0, 0)
     }
 
-    /// r = a shifted up by k, zeros enter. Equal widths; k is at most w - 1.
+    /// r = a shifted up by k, zeros enter. Equal widths; a k of the width or more gives 0.
     pub const fn shl(r: u8, a: u8, k: u8) -> Rule {
         Rule::new(Kind::Shl, r, a, 0, 0, k)
     }
 
-    /// r = a shifted down by k, zeros enter. Equal widths; k is at most w - 1.
+    /// r = a shifted down by k, zeros enter. Equal widths; a k of the width or more gives 0.
     pub const fn shr(r: u8, a: u8, k: u8) -> Rule {
         Rule::new(Kind::Shr, r, a, 0, 0, k)
     }

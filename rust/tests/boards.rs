@@ -141,13 +141,25 @@ fn l_the_last_that_passes_and_the_first_that_is_refused() {
         (board(&[fixed; MAX_WORDS], &[], 0), board(&[fixed; MAX_WORDS + 1], &[], 0), REFUSED_SIZE),
         (board(&[fixed], &[Rule::ule(0, 0); MAX_RULES], 0), board(&[fixed], &[Rule::ule(0, 0); MAX_RULES + 1], 0), REFUSED_SIZE),
         (board(&four, &[Rule::slice(0, 1, 4)], 0), board(&four, &[Rule::slice(0, 1, 5)], 0), REFUSED_FIT),
-        (board(&four, &[Rule::shl(0, 0, 3)], 0), board(&four, &[Rule::shl(0, 0, 4)], 0), REFUSED_FIT),
+        (board(&four, &[Rule::shl(0, 0, 255)], 0), board(&four, &[Rule::shl(0, 1, 0)], 0), REFUSED_FIT),
     ];
     for (passes, refused, number) in cases {
         assert_eq!(passes.check(), Ok(()));
         assert_eq!(Problem::read(&passes.write().unwrap()), Ok(passes));
         assert_eq!(refused.check(), Err(Refusal { number, place: 0 }));
         assert_eq!(refused.solve(), Err(Refusal { number, place: 0 }));
+    }
+}
+
+#[test]
+fn l_a_shift_may_be_as_long_as_the_word_and_longer() {
+    for rule in [Rule::shl(0, 1, 4), Rule::shr(0, 1, 4), Rule::shl(0, 1, 255), Rule::shr(0, 1, 255)] {
+        let l = board(&[Word::open(4), Word::open(4)], &[rule], 4);
+        assert_eq!(l.check(), Ok(()), "{rule:?}");
+        assert_eq!(l.tighten(), tight(&[Word::fixed(4, 0), Word::open(4)]), "{rule:?}");
+        assert_eq!(l.solve(), found(&[0, 0], 4), "{rule:?}");
+        assert_eq!(l.explain(0, Place::R, 3), forced(false, &[]), "{rule:?}");
+        assert_eq!(l.explain(0, Place::A, 3), Ok(Explained::Free), "{rule:?}");
     }
 }
 
@@ -182,6 +194,8 @@ fn every_result_is_computed() {
         (Rule::join(3, 0, 1), 8, 202),
         (Rule::shl(3, 0, 1), 4, 8),
         (Rule::shr(3, 0, 2), 4, 3),
+        (Rule::shl(3, 0, 4), 4, 0),
+        (Rule::shr(3, 0, 64), 4, 0),
     ];
     for (rule, width, value) in cases {
         assert_eq!(board(&[a, b, s, Word::open(width)], &[rule], 0).solve(), found(&[12, 10, 0, value], 0), "{rule:?}");

@@ -43,7 +43,7 @@ fn faulty() -> Vec<(Problem, u64, u64)> {
         (with_rule(Rule { k: 1, ..Rule::ne(0, 1) }), REFUSED_FIELD, 1),
         (with_rule(Rule::add(0, 1, 2)), REFUSED_FIT, 1),
         (with_rule(Rule::ite(0, 0, 1, 1)), REFUSED_FIT, 1),
-        (with_rule(Rule::shr(0, 1, 4)), REFUSED_FIT, 1),
+        (with_rule(Rule::shr(0, 2, 1)), REFUSED_FIT, 1),
         (with_rule(Rule::join(0, 1, 2)), REFUSED_FIT, 1),
     ]
 }

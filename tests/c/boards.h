@@ -230,14 +230,14 @@ static void most_words_and_rules(void) {
     files("unsat 0\ncause 0 0\n");
 }
 
-// Part of board L: one rule of every kind, its k the last that fits.
+// Part of board L: one rule of every kind, the k of SLICE the last that fits, those of the shifts the width and the greatest.
 static void every_kind(void) {
     begin("every kind", 0);
     word(1, 0, 1), word(4, 0, 15), word(8, 0, 255), word(12, 0, 4095), word(4, 0, 15);
     rule(SIEVECREST_KIND_COPY, 1, 4, 0, 0, 0), rule(SIEVECREST_KIND_NOT, 1, 4, 0, 0, 0), rule(SIEVECREST_KIND_AND, 1, 4, 1, 0, 0);
     rule(SIEVECREST_KIND_OR, 1, 4, 1, 0, 0), rule(SIEVECREST_KIND_XOR, 1, 4, 1, 0, 0), rule(SIEVECREST_KIND_ADD, 1, 4, 1, 0, 0);
     rule(SIEVECREST_KIND_ITE, 1, 4, 1, 0, 0), rule(SIEVECREST_KIND_SLICE, 1, 2, 0, 0, 4), rule(SIEVECREST_KIND_JOIN, 3, 1, 2, 0, 0);
-    rule(SIEVECREST_KIND_SHL, 1, 4, 0, 0, 3), rule(SIEVECREST_KIND_SHR, 1, 4, 0, 0, 3), rule(SIEVECREST_KIND_ULE, 0, 1, 4, 0, 0);
+    rule(SIEVECREST_KIND_SHL, 1, 4, 0, 0, 4), rule(SIEVECREST_KIND_SHR, 1, 4, 0, 0, 255), rule(SIEVECREST_KIND_ULE, 0, 1, 4, 0, 0);
     rule(SIEVECREST_KIND_ULT, 0, 1, 4, 0, 0), rule(SIEVECREST_KIND_NE, 0, 1, 4, 0, 0);
     check(SIEVECREST_OK);
 }
