@@ -42,7 +42,7 @@ def result(kind, v, w, k):
 
 def fits_widths(kind, w, k):
     """Whether the widths of a rule's places, and k, fit."""
-    if kind in (1, 2):
+    if kind in (1, 2, 10, 11):
         return w["r"] == w["a"]
     if kind in (3, 4, 5, 6):
         return w["r"] == w["a"] == w["b"]
@@ -52,8 +52,6 @@ def fits_widths(kind, w, k):
         return k + w["r"] <= w["a"]
     if kind == 9:
         return w["r"] == w["a"] + w["b"]
-    if kind in (10, 11):
-        return w["r"] == w["a"] and k <= w["r"] - 1
     return w["a"] == w["b"]
 
 
@@ -86,10 +84,14 @@ def refusal(words, rules, limit):
     return None
 
 
+# up to so many open bits every value is gone through
+FEW = 14
+
+
 def between(lo, hi):
     """All values that keep the fixed bits of two bounds."""
     free = [1 << j for j in range(64) if (lo ^ hi) >> j & 1]
-    if len(free) > 14:
+    if len(free) > FEW:
         raise ValueError("too many open bits to go through")
     for chosen in itertools.product((0, 1), repeat=len(free)):
         yield lo + sum(bit for bit, one in zip(free, chosen) if one)
@@ -164,12 +166,41 @@ def says(words, rule, place, bit, opened):
     for p in places:
         drop = sum(1 << j for q, j in opened if q == p)
         bounds[p] = (words[3 * named[p] + 1] & ~drop, words[3 * named[p] + 2] | drop)
+    seen = seen_in_fits(kind, k, widths, bounds, place, bit)
+    return "conflict" if not seen else "free" if len(seen) == 2 else "forced %d" % seen.pop()
+
+
+def seen_in_fits(kind, k, widths, bounds, place, bit):
+    """The values that a bit has in the fits of a rule: every fit is gone through, but of a shift with many open bits."""
+    open_bits = sum(bin(lo ^ hi).count("1") for lo, hi in bounds.values())
+    by_bits = shift_by_bits(kind, k, widths["r"], bounds, place, bit) if kind in (10, 11) else None
+    if by_bits is not None and open_bits > FEW:
+        return by_bits
     seen = set()
-    for values in itertools.product(*(between(*bounds[p]) for p in places)):
-        v = dict(zip(places, values))
+    for values in itertools.product(*(between(*bounds[p]) for p in bounds)):
+        v = dict(zip(bounds, values))
         if holds(kind, v, widths, k):
             seen.add(v[place] >> bit & 1)
-    return "conflict" if not seen else "free" if len(seen) == 2 else "forced %d" % seen.pop()
+    if by_bits not in (None, seen):
+        raise ValueError(f"a shift by {k} has {seen} in its fits, and bit by bit {by_bits}")
+    return seen
+
+
+def shift_by_bits(kind, k, width, bounds, place, bit):
+    """The values that a bit has in the fits of a shift. Each bit of r is one bit of a, or a zero that enters; so each is looked at by itself."""
+
+    def can(p, j):
+        return {x for x in (0, 1) if bounds[p][x] >> j & 1 == x}
+
+    seen = can(place, bit)
+    for i in range(width):
+        j = i - k if kind == 10 else i + k
+        both = can("r", i) & (can("a", j) if 0 <= j < width else {0})
+        if not both:
+            return set()
+        if (place, bit) in (("r", i), ("a", j)):
+            seen = both
+    return seen
 
 
 def reason(words, rule, place, bit):

@@ -14,7 +14,7 @@ import lent
 import reading
 
 HERE = pathlib.Path(__file__).resolve().parent
-BOARDS = 341
+BOARDS = 591
 
 
 def boards():
