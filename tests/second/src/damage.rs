@@ -56,7 +56,7 @@ pub fn spoil_problem(number: u64, problem: &mut Problem, random: &mut Random) {
             rule.at[p] = if places(rule.kind).any(|q| q == p) { random.pick(&[words as u8, 32, 255]) } else { random.pick(&[1, 2, 255]) };
         }
         7 => rule.k = if uses(rule.kind).contains('k') { rule.k } else { random.pick(&[1, 64, 255]) },
-        8 if uses(rule.kind).contains('k') && random.once_in(2) => rule.k = random.pick(&[widths[usize::from(rule.at[0]) % words], 63, 64, 255]),
+        8 if rule.kind == 8 && random.once_in(2) => rule.k = random.pick(&[widths[usize::from(rule.at[0]) % words], 63, 64, 255]),
         8 => {
             let used: Vec<usize> = places(rule.kind).collect();
             if !used.is_empty() {

@@ -128,7 +128,7 @@ pub fn has_fit(rule: &Rule, [r, a, b, s]: &[Word; 4]) -> bool {
         8 => bits.all(|i| same(r, i, a, i + k)),
         9 => bits.all(|i| if i < b.width { same(r, i, b, i) } else { same(r, i, a, i - b.width) }),
         10 => bits.all(|i| if i < k { can(r, i, false) } else { same(r, i, a, i - k) }),
-        11 => bits.all(|i| if i + k < r.width { same(r, i, a, i + k) } else { can(r, i, false) }),
+        11 => bits.all(|i| if k < r.width - i { same(r, i, a, i + k) } else { can(r, i, false) }),
         12 => a.lo <= b.hi,
         13 => a.lo < b.hi,
         _ => a.lo != a.hi || b.lo != b.hi || a.lo != b.lo,
@@ -155,6 +155,7 @@ fn has_sum(r: &Word, a: &Word, b: &Word) -> bool {
 #[cfg(test)]
 mod tests {
     use super::*;
+    use crate::make::amount;
     use crate::paper::{check_rule, greatest, uses};
     use crate::random::Random;
 
@@ -171,7 +172,7 @@ mod tests {
         let (mut compared, mut empty) = (0, 0);
         for kind in 1..=14 {
             let used = places(kind).count();
-            for (r, wide, k) in (1..=4).flat_map(|r| (1..=4).flat_map(move |wide| (0..4).map(move |k| (r, wide, k)))) {
+            for (r, wide, k) in (1..=4).flat_map(|r| (1..=4).flat_map(move |wide| [0, 1, 2, 3, 4, 5, 255].map(|k| (r, wide, k)))) {
                 let mut rule = Rule { kind, k, ..Rule::default() };
                 places(kind).for_each(|p| rule.at[p] = p as u8);
                 let widths = [r, wide, wide, 1];
@@ -215,7 +216,7 @@ mod tests {
                 rule.at[p] = random.below(4) as u8;
             }
             if uses(kind).contains('k') {
-                rule.k = random.below(u64::from(usual)) as u8;
+                rule.k = if kind == 8 { random.below(u64::from(usual)) as u8 } else { amount(usual, &mut random) };
             }
             if check_rule(&words, &rule).is_err() {
                 continue;

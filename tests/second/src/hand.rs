@@ -39,7 +39,8 @@ pub fn boards() -> Vec<(String, Problem, String)> {
         ("l-slice", slice(4), "sat 0\n0 4 0000\n1 8 00000000\n".into()),
         ("l-slice-over", slice(5), "refused 8 0\n".into()),
         ("l-shift", shift(3), "sat 0\n0 4 0000\n".into()),
-        ("l-shift-over", shift(4), "refused 8 0\n".into()),
+        ("l-shift-4", shift(4), "sat 0\n0 4 0000\n".into()),
+        ("l-shift-255", shift(255), "sat 0\n0 4 0000\n".into()),
     ];
     listed.into_iter().map(|(name, problem, lines)| (name.to_string(), problem, lines)).collect()
 }

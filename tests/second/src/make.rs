@@ -13,6 +13,15 @@ use std::path::Path;
 /// Work allowed for a made board; one that takes more is left out.
 const SMALL: u64 = 400_000;
 
+/// The k of a shift at a width: mostly below the width, else around it and far above.
+pub fn amount(width: u8, random: &mut Random) -> u8 {
+    if random.once_in(3) {
+        random.pick(&[width - 1, width, width + 1, 63, 64, 255])
+    } else {
+        random.below(u64::from(width)) as u8
+    }
+}
+
 /// A random rule of random words that passes the checker; None if none was met.
 pub fn some_rule(words: &[Word], kind: u8, random: &mut Random) -> Option<Rule> {
     for _ in 0..30 {
@@ -21,7 +30,8 @@ pub fn some_rule(words: &[Word], kind: u8, random: &mut Random) -> Option<Rule> 
             rule.at[p] = random.below(words.len() as u64) as u8;
         }
         if uses(kind).contains('k') {
-            rule.k = random.below(u64::from(words[usize::from(rule.at[1])].width)) as u8;
+            let width = words[usize::from(rule.at[1])].width;
+            rule.k = if kind == 8 { random.below(u64::from(width)) as u8 } else { amount(width, random) };
         }
         if check_rule(words, &rule).is_ok() {
             return Some(rule);
@@ -210,6 +220,11 @@ mod tests {
         let problems: Vec<Problem> = (0..400).map(|_| proper(&mut random)).collect();
         for kind in 1..=14 {
             assert!(problems.iter().flat_map(|p| &p.rules).filter(|rule| rule.kind == kind).count() >= 20, "kind {kind}");
+        }
+        for kind in [10, 11] {
+            let is_long = |p: &Problem, rule: &Rule| rule.kind == kind && rule.k >= p.words[usize::from(rule.at[1])].width;
+            let long: usize = problems.iter().map(|p| p.rules.iter().filter(|rule| is_long(p, rule)).count()).sum();
+            assert!(long >= 10, "kind {kind}: {long} shifts by the width or more");
         }
         assert!(problems.iter().any(|p| p.words.len() == 32) && problems.iter().any(|p| p.rules.len() > 189));
         assert!(problems.iter().all(|p| crate::paper::check(p).is_ok()));

@@ -92,12 +92,11 @@ pub fn holds(kind: u8, k: u8, widths: [u8; 4], values: [u64; 4]) -> bool {
 
 fn widths_fit(kind: u8, k: u8, [r, a, b, s]: [u8; 4]) -> bool {
     match kind {
-        1 | 2 => r == a,
+        1 | 2 | 10 | 11 => r == a,
         3..=6 => r == a && r == b,
         7 => r == a && r == b && s == 1,
         8 => usize::from(k) + usize::from(r) <= usize::from(a),
         9 => r == a + b,
-        10 | 11 => r == a && k < r,
         _ => a == b,
     }
 }
@@ -169,13 +168,26 @@ mod tests {
         assert_eq!(result(11, 3, [4, 4, 0, 0], [0, 12, 0, 0]), 1);
     }
 
-    /// Board L: the last k that fits, and the first that does not.
+    /// A shift by the width or more gives 0; one by a bit less keeps one bit.
+    #[test]
+    fn long_shifts() {
+        for width in [1, 4, 63, 64] {
+            let all = greatest(width);
+            let by = |kind, k| result(kind, k, [width, width, 0, 0], [0, all, 0, 0]);
+            assert_eq!([by(10, width - 1), by(11, width - 1)], [1 << (width - 1), 1]);
+            for k in [width, width + 1, 127, 128, 255] {
+                assert_eq!([by(10, k), by(11, k)], [0, 0], "width {width}, k {k}");
+            }
+        }
+    }
+
+    /// Board L: the last k of SLICE that fits, and the first that does not; a shift may have any k.
     #[test]
     fn amounts_at_their_bounds() {
         let words = [4, 8].map(|width| Word { width, lo: 0, hi: 0 });
         let slice = |k| Rule { kind: 8, at: [0, 1, 0, 0], k };
         let shift = |k| Rule { kind: 10, at: [0, 0, 0, 0], k };
         assert_eq!([4, 5].map(|k| check_rule(&words, &slice(k))), [Ok(()), Err(8)]);
-        assert_eq!([3, 4].map(|k| check_rule(&words, &shift(k))), [Ok(()), Err(8)]);
+        assert_eq!([3, 4, 255].map(|k| check_rule(&words, &shift(k))), [Ok(()); 3]);
     }
 }
