@@ -54,11 +54,23 @@ LAWS = {
     "twice not": (["NOT a = x", "NOT p = a"], "p x"),
     "add is xor where no bit is common": (["NOT y = x", "ADD p = x y", "XOR q = x y"], "p q"),
     "shift by one is twice": (["SHL p = x 1", "ADD q = x x"], "p q"),
+    "shift up by the width is zero": (["SHL p = x 3", "XOR q = x x"], "p q"),
+    "shift down by the width is zero": (["SHR p = x 3", "XOR q = x x"], "p q"),
+    "shift up by more is zero": (["SHL p = x 255", "XOR q = x x"], "p q"),
+    "shift down by more is zero": (["SHR p = x 255", "XOR q = x x"], "p q"),
+    "two shifts up are one, to the width": (["SHL a = x 2", "SHL p = a 1", "SHL q = x 3"], "p q"),
+    "two shifts down are one, to the width": (["SHR a = x 1", "SHR p = a 2", "SHR q = x 3"], "p q"),
+    "two shifts up are one, over the width": (["SHL a = x 2", "SHL p = a 2", "SHL q = x 4"], "p q"),
+    "two shifts down are one, over the width": (["SHR a = x 64", "SHR p = a 191", "SHR q = x 255"], "p q"),
+    "shift of a sum by the width": (["ADD a = x y", "SHL p = a 3", "SHL b = x 3", "SHL c = y 3", "ADD q = b c"], "p q"),
+    "or with a word shifted out": (["SHR a = y 3", "OR p = x a"], "p x"),
     "extract of concat, above": (["JOIN w = x y", "SLICE p = w 3"], "p x"),
     "extract of concat, below": (["JOIN w = x y", "SLICE p = w 0"], "p y"),
     "ite of one value": (["ITE p = x if s else x"], "p x"),
 }
 WIDE = {"w": 6, "s": 1}
+# what a shift is by, at width 4: every operand of that width, then numbers that no such operand has
+AMOUNTS = [*range(16), 16, 63, 64, 255]
 
 
 KEPT = "target/smtlib"
@@ -109,6 +121,7 @@ def equations(program):
     for s in [bits(n, 4) for n in range(16)]:
         for k in range(4):
             yield f"extract {k} {s}", advised(program, [f"word r {4 - k}", fixed("s", s), f"SLICE r = s {k}"]), ["sat 0", s[k:]]
+        for k in AMOUNTS:
             yield f"bvshl {k} {s}", advised(program, ["word r 4", fixed("s", s), f"SHL r = s {k}"]), ["sat 0", bits(value(s) << k, 4)]
             yield f"bvlshr {k} {s}", advised(program, ["word r 4", fixed("s", s), f"SHR r = s {k}"]), ["sat 0", bits(value(s) >> k, 4)]
 
