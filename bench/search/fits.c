@@ -39,8 +39,8 @@ static uint64_t computed(int kind, uint64_t a, uint64_t b, uint64_t s, unsigned 
     case 7: return s == 1 ? a : b;
     case 8: return a >> k & ones(w);
     case 9: return (a << wb) | b;
-    case 10: return a << k & ones(w);
-    default: return a >> k;
+    case 10: return k < w ? a << k & ones(w) : 0;
+    default: return k < w ? a >> k : 0;
     }
 }
 
@@ -48,9 +48,8 @@ static int fit_widths(int kind, const uint64_t *w, unsigned k) {
     if (kind == 7) return w[0] == w[1] && w[0] == w[2] && w[3] == 1;
     if (kind == 8) return k + w[0] <= w[1];
     if (kind == 9) return w[0] == w[1] + w[2];
-    if (kind == 10 || kind == 11) return w[0] == w[1] && k + 1 <= w[0];
     if (kind >= 12) return w[1] == w[2];
-    return w[0] == w[1] && (kind < 3 || w[0] == w[2]);
+    return w[0] == w[1] && (kind < 3 || kind > 9 || w[0] == w[2]);
 }
 
 // The next value that keeps the fixed bits, after v; the one after the last is the first.
@@ -170,6 +169,7 @@ static void make(problem *p) {
             w[i] = uses(kind, i) ? p->words[3 * f[1 + i]] : 0;
         }
         f[5] = kind == 8 || kind == 10 || kind == 11 ? (uint8_t)below(is_wide ? 64 : 4) : 0;
+        if (kind > 9 && f[5] && below(4) == 0) f[5] = (uint8_t)(below(2) ? w[1] + below(2) : 255 - below(192)); // a shift by the width or more
         if (fit_widths(kind, w, f[5])) p->nrules++;
     }
     p->limit = below(4) ? 1000000 : below(8);

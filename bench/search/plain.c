@@ -86,6 +86,10 @@ static int add(search *x, const rule *u) {
     return meet(x, u->r, all & ~r0s, r1s) && meet(x, u->a, all & ~(z | d | right), c | e | left) && meet(x, u->b, all & ~(z | d | left), c | e | right);
 }
 
+// x shifted up or down by k: 0 from 64 on.
+static inline uint64_t shl(uint64_t x, unsigned k) { return k < 64 ? x << k : 0; }
+static inline uint64_t shr(uint64_t x, unsigned k) { return k < 64 ? x >> k : 0; }
+
 // One rule narrowed to the hull of its fits; 0 if it has none.
 static inline int narrow(search *x, const rule *u) {
     uint64_t rl = x->lo[u->r], rh = x->hi[u->r], al = x->lo[u->a], ah = x->hi[u->a], bl = x->lo[u->b], bh = x->hi[u->b], all = u->all;
@@ -119,8 +123,8 @@ static inline int narrow(search *x, const rule *u) {
         uint64_t low = ((uint64_t)1 << u->low) - 1;
         return meet(x, u->r, al << u->low | bl, ah << u->low | bh) && meet(x, u->a, rl >> u->low, rh >> u->low) && meet(x, u->b, rl & low, rh & low);
     }
-    case SHL: return meet(x, u->r, al << u->k & all, ah << u->k & all) && meet(x, u->a, rl >> u->k, rh >> u->k | ~(all >> u->k));
-    case SHR: return meet(x, u->r, al >> u->k, ah >> u->k) && meet(x, u->a, rl << u->k & all, rh << u->k | ~(all << u->k));
+    case SHL: return meet(x, u->r, shl(al, u->k) & all, shl(ah, u->k) & all) && meet(x, u->a, shr(rl, u->k), shr(rh, u->k) | ~shr(all, u->k));
+    case SHR: return meet(x, u->r, shr(al, u->k), shr(ah, u->k)) && meet(x, u->a, shl(rl, u->k) & all, shl(rh, u->k) | ~shl(all, u->k));
     case ULE:
     case ULT: {
         // a bit of a can be 1, or one of b 0, where it is no more than what lies between the least a and the greatest b

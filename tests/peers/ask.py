@@ -38,7 +38,8 @@ def term(board, kind, fields):
     elif kind == "SLICE":
         right = f"((_ extract {k + board.words[fields['r']][0] - 1} {k}) {a})"
     elif kind in SHIFTS:
-        right = f"({SHIFTS[kind]} {a} {constant(k, width)})"
+        # of an amount that no constant of the width has, the greatest constant: it is at or above the width as well
+        right = f"({SHIFTS[kind]} {a} {constant(min(k, (1 << width) - 1), width)})"
     else:
         right = f"({OPERATORS[kind]} {a} {b})"
     return f"(= {r} {right})"

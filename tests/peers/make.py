@@ -14,8 +14,9 @@ from board import KINDS, Board
 
 SEED = 20
 MOST_GUESSES = 20000
-# how many boards of each sort: found, found without a guess, none, none without a guess
+# how many boards of each sort: found, found without a guess, none, none without a guess; and of boards with long shifts
 WANTED = {"sat": 150, "sat 0": 30, "unsat": 90, "unsat 0": 70}
+WANTED_LONG = {"sat": 10, "sat 0": 4, "unsat": 8, "unsat 0": 6}
 
 
 def computed(kind, fields, words):
@@ -132,6 +133,23 @@ def mixed(m):
     return [len(m.words) - 1]
 
 
+def shifts(m):
+    """Shifts by less than the width, by the width and by more, put together and compared, at widths of which some have no operand as large as the amount."""
+    width = m.dice.choice([1, 2, 4, 5, 8, 33, 63, 64])
+    words = [m.new(width) for _ in range(m.dice.randint(2, 3))]
+    moved = []
+    for x in words:
+        for kind in ("SHL", "SHR"):
+            moved.append(m.compute(kind, a=x, k=m.dice.choice([width // 2, width - 1, width, width, width + 1, 63, 64, 255])))
+    total = moved[0]
+    for x in moved[1:]:
+        total = m.compute(m.dice.choice(["OR", "XOR", "ADD"]), a=total, b=x)
+    total = m.compute("ADD", a=total, b=words[0])
+    for _ in range(m.dice.randint(1, 3)):
+        m.relate(m.dice.choice(words), m.dice.choice(moved + words))
+    return [total]
+
+
 def made(dice, name, family):
     """A board of a family: known words fixed, the others opened in full or in a few bits, and now and then a rule that the values break."""
     m = Maker(dice)
@@ -156,17 +174,12 @@ def made(dice, name, family):
     return Board(name, words, m.rules)
 
 
-def main():
-    if len(sys.argv) != 2 or not os.access(sys.argv[1], os.X_OK):
-        sys.exit("make.py: give the plain search as a program: bench/search/advise.c with plain.c, compiled")
-    dice = random.Random(SEED)
-    families = [sums, fields, muxes, mixed]
-    left = {(family.__name__, sort): -(-count // len(families)) for sort, count in WANTED.items() for family in families}
-    print("# Boards with wide words, made by make.py and answered in answers.txt; board.py says how to read them.")
-    number = 0
+def print_boards(dice, families, wanted, number):
+    """Boards of some families, numbered on from a number, until there are as many of each sort as wanted; the next number."""
+    left = {(family.__name__, sort): -(-count // len(families)) for sort, count in wanted.items() for family in families}
     for _ in range(200000):
         if not any(left.values()):
-            return
+            return number
         family = dice.choice(families)
         board = made(dice, f"{family.__name__}-{number:03}", family)
         lines = subprocess.run([sys.argv[1]], input=board.file(MOST_GUESSES), capture_output=True, check=True).stdout.decode().split("\n")
@@ -179,6 +192,14 @@ def main():
             number += 1
             print(board.text(), end="")
     sys.exit(f"make.py: these were not met often enough: {({key: n for key, n in left.items() if n})}")
+
+
+def main():
+    if len(sys.argv) != 2 or not os.access(sys.argv[1], os.X_OK):
+        sys.exit("make.py: give the plain search as a program: bench/search/advise.c with plain.c, compiled")
+    print("# Boards with wide words, made by make.py and answered in answers.txt; board.py says how to read them.")
+    number = print_boards(random.Random(SEED), [sums, fields, muxes, mixed], WANTED, 0)
+    print_boards(random.Random(SEED), [shifts], WANTED_LONG, number)
 
 
 if __name__ == "__main__":
