@@ -28,7 +28,7 @@ abbrev boardL : ℕ → Problem
 boardL k = record { widths = 4 ∷ 4 ∷ []; lo = 0 ∷ 0 ∷ []; hi = 15 ∷ 15 ∷ []; rules = shift 10 1 0 k ∷ [] }
 
 -- width 2, all words open: word 1 is word 0 inverted, word 2 is word 1 shifted up by 2, word 3 is word 1 shifted down by 255.
--- Did a shift not compute its word, then word 1 were among the inputs, and the ceiling 15
+-- If a shift did not compute its word, word 1 would be among the inputs, and the ceiling would be 15.
 abbrev chain : Problem
 chain = record {
   widths = 2 ∷ 2 ∷ 2 ∷ 2 ∷ [];
