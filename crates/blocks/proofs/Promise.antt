@@ -1,14 +1,18 @@
--- Two results that a promise allows are equal.
+-- Two results that a promise allows are equal; and a refusal to write is that of the law for all calls.
 use mathlib.Core.Path.{_≡_, refl, sym, _∙_}
 use mathlib.Core.List.{List}
 use Prim.Native.Nat.{ℕ}
 use native.Mathlib.Omega.{arith}
+use lib.ListN.{length}
+use Rattle.checker.specs.declared.Checked.{Checked}
+use Rattle.checker.specs.Refusal.{refusalWith, withRoom}
+use Rattle.checker.proofs.Rooms.{first-short, roomy}
 use Rattle.checker.proofs.Firsts.{refused-not-ok}
 use Rattle.blocks.specs.declared.Reading.{Reading}
 use Rattle.blocks.specs.declared.Written.{Written}
 use Rattle.blocks.specs.Edition.{edition1}
 use Rattle.blocks.specs.File.{Whole, Fault}
-use Rattle.blocks.specs.Written.{IsFile}
+use Rattle.blocks.specs.Written.{IsFile, encode}
 use Rattle.blocks.specs.Promise.{Reads, Writes}
 use Rattle.blocks.proofs.Fair.{fair1}
 use Rattle.blocks.proofs.Faults.{fault-once, proper-whole, proper-faultless}
@@ -55,3 +59,15 @@ write-once (Writes.refused r j p) (Writes.ok r′ j′ k p′) = absurd (refused
 write-once (Writes.ok r j k p) (Writes.size n p′) = absurd (n r)
 write-once (Writes.ok r j k p) (Writes.refused r′ j′ p′) = absurd (refused-not-ok j′ j)
 write-once (Writes.ok r j k p) (Writes.ok r′ j′ k′ p′) = (cc, p ∙ sym p′)
+
+-- ---- writing by the law of all calls that are lent a problem: too short, then the first refusal, else given
+
+module _ {limit : ℕ} {ws bs f g : List ℕ} where
+  pub write-refusal : {n i : ℕ} → Writes edition1 limit ws bs f g (Written.Refused n i)
+      → withRoom (length (encode edition1 limit ws bs)) (length f) 0 0 (refusalWith limit ws bs) ≡ Checked.Refused n i
+  write-refusal (Writes.size s p) = first-short (length (encode edition1 limit ws bs)) (length f) 0 0 (refusalWith limit ws bs) (omega arith)
+  write-refusal (Writes.refused r j p) = roomy (length (encode edition1 limit ws bs)) (length f) 0 0 (refusalWith limit ws bs) r (omega arith) ∙ j
+
+  pub write-given : {k : ℕ} → Writes edition1 limit ws bs f g (Written.Ok k)
+      → withRoom (length (encode edition1 limit ws bs)) (length f) 0 0 (refusalWith limit ws bs) ≡ Checked.Ok
+  write-given (Writes.ok r j k p) = roomy (length (encode edition1 limit ws bs)) (length f) 0 0 (refusalWith limit ws bs) r (omega arith) ∙ j

@@ -1,10 +1,10 @@
 -- To be believed: the starred boards of the product's paper, A to K, as one table. Where the paper names no limit, it is the greatest, 1,000,000.
 use mathlib.Core.List.{List, [], _∷_}
 use Prim.Native.Nat.{ℕ, _^_, _-_}
-use Rattle.rules.specs.Kinds.{A, B}
+use Rattle.rules.specs.Kinds.{A, B, R}
 use Rattle.rules.specs.Tight.{Rule}
 use Rattle.search_theory.specs.Search.{found, none, gave-up}
-use Rattle.reason_theory.specs.Says.{FORCED}
+use Rattle.reason_theory.specs.Says.{FORCED, FREE}
 use Rattle.cause_theory.specs.Cause.{CAUSE}
 use Rattle.lists.specs.Lists.{zeros}
 use Rattle.boards.specs.Row.{Problem, Row, solve, ceiling, explain, cause, file}
@@ -113,4 +113,33 @@ rises =
     ∷ ceiling (twoBits []) 3
     ∷ solve (twoBits (ne 0 0 ∷ [])) 1000000 (none 3)
     ∷ ceiling (twoBits (ne 0 0 ∷ [])) 3
+    ∷ []
+
+-- ---- shifts as long as the word
+
+abbrev shift : ℕ → ℕ → ℕ → ℕ → Rule
+shift κ r a k = record { kind = κ; r = r; a = a; b = 0; s = 0; k = k }
+
+-- width 4, SHL of word 0 by k
+abbrev boardL : ℕ → Problem
+boardL k = record { widths = 4 ∷ 4 ∷ []; lo = 0 ∷ 0 ∷ []; hi = 15 ∷ 15 ∷ []; rules = shift 10 1 0 k ∷ [] }
+
+-- width 2, all words open: word 1 is word 0 inverted, word 2 is word 1 shifted up by 2, word 3 is word 1 shifted down by 255.
+-- If a shift did not compute its word, word 1 would be among the inputs, and the ceiling would be 15.
+abbrev chain : Problem
+chain = record {
+  widths = 2 ∷ 2 ∷ 2 ∷ 2 ∷ [];
+  lo = 0 ∷ 0 ∷ 0 ∷ 0 ∷ [];
+  hi = 3 ∷ 3 ∷ 3 ∷ 3 ∷ [];
+  rules = shift 2 1 0 0 ∷ shift 10 2 1 2 ∷ shift 11 3 1 255 ∷ [];
+}
+
+abbrev pub longShifts : List Row
+longShifts =
+    solve (boardL 4) 1000000 (found (0 ∷ 0 ∷ []) 4)
+    ∷ solve (boardL 255) 1000000 (found (0 ∷ 0 ∷ []) 4)
+    ∷ explain (boardL 4) 0 R 3 (FORCED 0) []
+    ∷ explain (boardL 4) 0 A 0 FREE []
+    ∷ solve chain 1000000 (found (0 ∷ 3 ∷ 0 ∷ 0 ∷ []) 2)
+    ∷ ceiling chain 3
     ∷ []
