@@ -7,4 +7,5 @@ pub mod Pieces
 pub mod Puts
 pub mod Series
 pub mod Sets
+pub mod Snoc
 pub mod Unders

@@ -20,3 +20,4 @@ pub mod Steps
 pub mod Found
 pub mod Widest
 pub mod LeastInputs
+pub mod KindNumbers

@@ -5,6 +5,7 @@ pub mod SmtLib
 pub mod Fits
 pub mod Tight
 pub mod Proper
+pub mod KindNumbers
 pub mod ProperProblem
 pub mod Tightening
 pub mod Inputs

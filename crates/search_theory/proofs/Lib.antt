@@ -12,3 +12,4 @@ pub mod Order
 pub mod Solved
 pub mod Problem
 pub mod TheCeiling
+pub mod Decided
