@@ -16,20 +16,20 @@ use Rattle.scripts.specs.Sizes.{unarySize, UnaryFits, binarySize, Binary
 use Rattle.scripts.proofs.Terms.{unary-width, binary-width, unary-fits, binary-fits}
 
 -- a number for each place
-abbrev pub places : ℕ → ℕ → ℕ → ℕ → Place → ℕ
-places r a b s R = r
-places r a b s A = a
-places r a b s B = b
-places r a b s S = s
+abbrev pub byPlace : ℕ → ℕ → ℕ → ℕ → Place → ℕ
+byPlace r a b s R = r
+byPlace r a b s A = a
+byPlace r a b s B = b
+byPlace r a b s S = s
 
 -- the widths at the places of a rule that computes a word of width w from words of p
-abbrev pub placed : Draft → ℕ → ℕ → ℕ → ℕ → Place → ℕ
-placed p w a b s = places w (at (p .widths) a) (at (p .widths) b) (at (p .widths) s)
+abbrev pub rowWidths : Draft → ℕ → ℕ → ℕ → ℕ → Place → ℕ
+rowWidths p w a b s = byPlace w (at (p .widths) a) (at (p .widths) b) (at (p .widths) s)
 
 -- a kind, its k, the width of the new word and its operands fit together
 pub record Closes (p : Draft) (o : Op) (k w a b s : ℕ) : Type 0 where
   pub width : Width w
-  pub fit : Fitting (op o) (placed p w a b s) k
+  pub fit : Fitting (op o) (rowWidths p w a b s) k
   pub a-there : a < length (p .widths)
   pub b-there : b < length (p .widths)
   pub s-there : s < length (p .widths)
@@ -64,7 +64,7 @@ module _ (p : Draft) where
       → Closes p (unaryOp u) (unaryK u) (unarySize u (at (p .widths) x)) x 0 0
   unary-closes u x l w f = record {
     width = unary-width u (at (p .widths) x) w f;
-    fit = unary-fits u (placed p (unarySize u (at (p .widths) x)) x 0 0) f refl;
+    fit = unary-fits u (rowWidths p (unarySize u (at (p .widths) x)) x 0 0) f refl;
     a-there = l;
     b-there = omega arith;
     s-there = omega arith;
@@ -79,7 +79,7 @@ module _ (p : Draft) where
       → Closes p (binaryOp o) 0 (binarySize o (at (p .widths) x) (at (p .widths) y)) x y 0
   binary-closes o x y l m w f = record {
     width = binary-width o (at (p .widths) x) (at (p .widths) y) w f;
-    fit = binary-fits o (placed p (binarySize o (at (p .widths) x) (at (p .widths) y)) x y 0) f refl;
+    fit = binary-fits o (rowWidths p (binarySize o (at (p .widths) x) (at (p .widths) y)) x y 0) f refl;
     a-there = l;
     b-there = m;
     s-there = omega arith;

@@ -25,7 +25,7 @@ use Rattle.scripts.proofs.Follows.{inputs-rule, inputs-word}
 use Rattle.scripts.proofs.Grown.{Carried, Ready, Grown}
 use Rattle.rules.proofs.KindNumbers.{kind-op, op-number}
 use Rattle.words.proofs.OpenWord.{zero-⊑, ⊑-mask}
-use Rattle.scripts.proofs.Closes.{placed, Closes}
+use Rattle.scripts.proofs.Closes.{rowWidths, Closes}
 
 module _ (p : Draft) (o : Op) (k w a b s : ℕ) where
   abbrev ρ : Rule
@@ -37,7 +37,7 @@ module _ (p : Draft) (o : Op) (k w a b s : ℕ) where
 
   module _ (c : Closes p o k w a b s) where
     -- the widths at its places, in the draft with the new word
-    widths-here : (q : Place) → at (p .widths ++ (w ∷ [])) (word ρ q) ≡ placed p w a b s q
+    widths-here : (q : Place) → at (p .widths ++ (w ∷ [])) (word ρ q) ≡ rowWidths p w a b s q
     widths-here R = at-new (p .widths) w 0 (length (p .widths)) refl
     widths-here A = at-low (p .widths) w 0 a (c .a-there)
     widths-here B = at-low (p .widths) w 0 b (c .b-there)
@@ -89,12 +89,12 @@ module _ (p : Draft) (o : Op) (k w a b s : ℕ) where
     -- what it computes of settings is within the width
     module _ (h : ProperDraft p) (v : List ℕ) (t : SettingsOf p v) where
       value : ℕ
-      value = result o (placed p w a b s) k (at v a) (at v b) (at v s)
+      value = result o (rowWidths p w a b s) k (at v a) (at v b) (at v s)
 
       value-fits : value < 2 ^ w
       unfolding value
       value-fits =
-          result-small o (placed p w a b s) k (at v a) (at v b) (at v s) (c .fit)
+          result-small o (rowWidths p w a b s) k (at v a) (at v b) (at v s) (c .fit)
           (value-small v h t a) (λ u. value-small v h t b) (λ u. value-small v h t s)
 
       carried : Carried p (computedEnds o k w a b s p .draft) v
@@ -140,7 +140,7 @@ module _ (p : Draft) (o : Op) (k w a b s : ℕ) where
 
     -- in settings of all that the draft grows into, the word is what its rule computes
     pub computed-value : (q : Draft) (v : List ℕ) → Prefix (computedEnds o k w a b s p .draft) q → SettingsOf q v
-        → at v (computedEnds o k w a b s p .word) ≡ result o (placed p w a b s) k (at v a) (at v b) (at v s)
+        → at v (computedEnds o k w a b s p .word) ≡ result o (rowWidths p w a b s) k (at v a) (at v b) (at v s)
     unfolding computedEnds moreWord moreRule
     computed-value q v f t =
         let n = length (p .rules) in

@@ -19,7 +19,7 @@ use Rattle.scripts.proofs.Terms.{size-width, vector-sized}
 use Rattle.scripts.proofs.ProperDraft.{ProperDraft}
 use Rattle.scripts.proofs.Prefix.{Prefix, prefix-trans}
 use Rattle.scripts.proofs.Grown.{Ready, Grown, grown-trans}
-use Rattle.scripts.proofs.Closes.{placed, Closes}
+use Rattle.scripts.proofs.Closes.{rowWidths, Closes}
 use Rattle.scripts.proofs.Closing.{computed-grown, computed-there, computed-width, computed-value}
 use Rattle.scripts.proofs.TermRight.{WordOf, TermRight, right-after, closed-right}
 use Rattle.scripts.proofs.Closes.{unary-closes, binary-closes, ite-closes, not-closes, add-closes}
@@ -41,7 +41,7 @@ module _ (ws : List ℕ) (fine : (i : ℕ) → i < length ws → Width (at ws i)
       closed-right (unary u t) (unaryOp u) (unaryK u) (unarySize u (at (p .widths) x)) x 0 0 r
       (unary-closes p u x (a .there) (word-width (f .0) a) fits) (ap (unarySize u) (a .width))
       (λ q v h l s.
-      unary-vector u (placed p (unarySize u (at (p .widths) x)) x 0 0) (at v x) (at v 0) (at v 0) (vector ws v t)
+      unary-vector u (rowWidths p (unarySize u (at (p .widths) x)) x 0 0) (at v x) (at v 0) (at v 0) (vector ws v t)
       (word-width (f .0) a) fits refl (word-sized (f .0) a v) (word-read (f .0) a q v h l s)
       ∙ ap (λ (k : ℕ). bv2nat (unarySize u k) (unaryVector u (unarySize u k) (vector ws v t))) (a .width))
     where
@@ -58,7 +58,7 @@ module _ (ws : List ℕ) (fine : (i : ℕ) → i < length ws → Width (at ws i)
       closed-right (binary o s t) (binaryOp o) 0 (binarySize o (at (p .widths) x) (at (p .widths) y)) x y 0 r
       (binary-closes p o x y (a .there) (b .there) (word-width (f .0) a) fits) (rw (a .width, b .width))
       (λ q v h l z.
-      binary-vector o (placed p (binarySize o (at (p .widths) x) (at (p .widths) y)) x y 0) (at v x) (at v y) (at v 0) (vector ws v s) (vector ws v t)
+      binary-vector o (rowWidths p (binarySize o (at (p .widths) x) (at (p .widths) y)) x y 0) (at v x) (at v y) (at v 0) (vector ws v s) (vector ws v t)
       fits refl (word-sized (f .0) a v) (word-sized (f .1) b v) (word-read (f .0) a q v h l z) (word-read (f .1) b q v h l z)
       ∙ rw (a .width, b .width))
     where
@@ -77,7 +77,7 @@ module _ (ws : List ℕ) (fine : (i : ℕ) → i < length ws → Width (at ws i)
       closed-right (ite c s t) ITE 0 (at (p .widths) x) x y z r
       (ite-closes p z x y (k .there) (a .there) (b .there) (word-width (f .1) a) same (k .width ∙ f .3)) (a .width)
       (λ q v h l i.
-      ite-vector (placed p (at (p .widths) x) x y z) (at v x) (at v y) (at v z) (vector ws v s) (vector ws v t) (vector ws v c)
+      ite-vector (rowWidths p (at (p .widths) x) x y z) (at v x) (at v y) (at v z) (vector ws v s) (vector ws v t) (vector ws v c)
       refl same (k .width ∙ f .3) (word-sized (f .1) a v) (word-sized (f .2) b v) (word-sized (f .0) k v)
       (word-read (f .1) a q v h l i) (word-read (f .2) b q v h l i) (word-read (f .0) k q v h l i)
       ∙ ap (λ (n : ℕ). bv2nat n (vector ws v (ite c s t))) (a .width))

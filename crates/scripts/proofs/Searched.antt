@@ -6,12 +6,15 @@ use Prim.Native.Nat.{ℕ, suc, _^_, _≤_, _<_}
 use native.Mathlib.Omega.{arith}
 use native.Mathlib.Decide.{decLt}
 use lib.ListN.{length}
+use lib.Pow.{pow-mono}
 use Rattle.lists.specs.Lists.{at}
 use Rattle.words.specs.Table.{Table, Earlier}
 use Rattle.words.specs.Count.{openBelow}
+use Rattle.words.proofs.Counting.{fewer-words}
 use Rattle.rules.specs.Tight.{AllHold}
 use Rattle.search_theory.specs.Settings.{First}
 use Rattle.search_theory.specs.Search.{Outcome, found, none, gave-up, AnswerIs}
+use Rattle.search_theory.specs.Ceiling.{Ceiling}
 use Rattle.search_theory.proofs.Problem.{outcome-right, count-below, limit-reached}
 use Rattle.scripts.specs.Tree.{Script}
 use Rattle.scripts.specs.Sizes.{WellFormed}
@@ -101,3 +104,9 @@ module _ (s : Script) (ok : WellFormed s) where
     declared-limit limit o l x =
         limit-reached (problemMade s .widths) (problemMade s .rules) (problemMade s .table) (problem-table s ok) (length (s .sizes)) (declared-inputs s ok)
         u tight limit o l x
+
+    -- and the ceiling of the problem, which is that of the fewest words that may be called inputs, is no higher
+    pub ceiling-declared : (c : ℕ) → Ceiling (problemMade s .rules) (problemMade s .table) u c → c < 2 ^ openBelow (length (s .sizes)) u
+    ceiling-declared c top =
+        let fewer = top .least (length (s .sizes)) (declared-inputs s ok) in
+        omega (arith, top .number, pow-mono (fewer-words u (top .words) (length (s .sizes)) fewer))

@@ -16,7 +16,7 @@ use Rattle.scripts.specs.Making.{EndedTerm, computedEnds}
 use Rattle.scripts.proofs.ProperDraft.{ProperDraft}
 use Rattle.scripts.proofs.Prefix.{Prefix, prefix-trans}
 use Rattle.scripts.proofs.Grown.{Ready, Grown, grown-trans}
-use Rattle.scripts.proofs.Closes.{placed, Closes}
+use Rattle.scripts.proofs.Closes.{rowWidths, Closes}
 use Rattle.scripts.proofs.Closing.{computed-grown, computed-there, computed-width, computed-size, computed-value}
 
 -- word x of p is the word of the term t: in all settings of what p grows into it has the number of what t denotes
@@ -44,7 +44,7 @@ right-after g h = record { grown = grown-trans g (h .grown); width = h .width; w
 -- a term closed by one rule that computes the number of what the term denotes
 pub closed-right : {ws : List ℕ} {p : Draft} (t : Term) (o : Op) (k w a b s : ℕ) → Ready ws p → Closes p o k w a b s → w ≡ size ws t
     → ((q : Draft) (v : List ℕ) → ProperDraft q → Prefix p q → SettingsOf q v
-    → result o (placed p w a b s) k (at v a) (at v b) (at v s) ≡ bv2nat (size ws t) (vector ws v t))
+    → result o (rowWidths p w a b s) k (at v a) (at v b) (at v s) ≡ bv2nat (size ws t) (vector ws v t))
     → TermRight ws t p (computedEnds o k w a b s p)
 closed-right {ws} {p} t o k w a b s r c e h =
     let new : Grown ws p (computedEnds o k w a b s p .draft) = computed-grown p o k w a b s c r in
