@@ -18,8 +18,8 @@ pub mod Narrowed
 pub mod Start
 pub mod SameSettings
 pub mod Searched
-pub mod Counts
 pub mod Stored
+pub mod Additions
 pub mod ReadBack
 pub mod StoredProblem
 pub mod Boards

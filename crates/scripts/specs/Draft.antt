@@ -15,14 +15,14 @@ pub record Draft : Type 0 where
 
 -- one word more, and one rule more
 unfoldable pub moreWord : ℕ → ℕ → ℕ → Draft → Draft
-moreWord w lo hi p = record {
-  widths = p .widths ++ (w ∷ []);
-  table = record { lo = p .table .lo ++ (lo ∷ []); hi = p .table .hi ++ (hi ∷ []) };
-  rules = p .rules;
+moreWord w lo hi d = record {
+  widths = d .widths ++ (w ∷ []);
+  table = record { lo = d .table .lo ++ (lo ∷ []); hi = d .table .hi ++ (hi ∷ []) };
+  rules = d .rules;
 }
 
 unfoldable pub moreRule : Rule → Draft → Draft
-moreRule ρ p = record { widths = p .widths; table = p .table; rules = p .rules ++ (ρ ∷ []) }
+moreRule ρ d = record { widths = d .widths; table = d .table; rules = d .rules ++ (ρ ∷ []) }
 
 -- the rule that computes word r, and the rule that relates a and b
 abbrev pub computingRule : Op → ℕ → ℕ → ℕ → ℕ → ℕ → Rule
@@ -37,4 +37,4 @@ start ws = record { widths = ws; table = record { lo = map (λ w. 0) ws; hi = ma
 
 -- the settings of the problem that a draft is
 abbrev pub SettingsOf : Draft → List ℕ → Type 0
-SettingsOf p v = Settings (AllHold (p .widths) (p .rules)) (p .table) v
+SettingsOf d v = Settings (AllHold (d .widths) (d .rules)) (d .table) v

@@ -13,7 +13,7 @@ abbrev pub ruleEntry : Rule → List ℕ
 ruleEntry ρ = ρ .kind ∷ ρ .r ∷ ρ .a ∷ ρ .b ∷ ρ .s ∷ ρ .k ∷ []
 
 unfoldable pub storedWords : Draft → List ℕ
-storedWords p = flat (length (p .widths)) λ i. wordEntry (at (p .widths) i) (at (p .table .lo) i) (at (p .table .hi) i)
+storedWords d = flat (length (d .widths)) λ i. wordEntry (at (d .widths) i) (at (d .table .lo) i) (at (d .table .hi) i)
 
 unfoldable pub storedRules : Draft → List ℕ
-storedRules p = flat (length (p .rules)) λ n. ruleEntry (rule (p .rules) n)
+storedRules d = flat (length (d .rules)) λ n. ruleEntry (rule (d .rules) n)
