@@ -2,6 +2,7 @@
 // here they are only written. After success standard error is empty. After a read error nothing is written to standard output, and one line on standard error
 // says what failed; after a failed write one line there says so, and some of the bytes may have been written. The exit status is 0 in each case: a program of
 // this language has no other.
+#![tactic(auto)]
 ghost use Rattle.advise.specs.Reading.{InputRead};
 
 use libc::{STDIN_FILENO, STDOUT_FILENO};

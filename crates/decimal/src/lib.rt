@@ -1,4 +1,5 @@
 // Decimal numbers and bytes put into lent bytes, one behind the other, and decimal numbers read.
+#![tactic(auto)]
 pub mod number;
 
 ghost use Rattle.std.specs.Prelude.{◌+◌, ◌≤◌, length};
