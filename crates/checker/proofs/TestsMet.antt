@@ -90,7 +90,7 @@ module _ (n : ℕ) (ρ : Rule) where
       let (a, t₂) = both (at_place A) _ t₁ in
       let (b, t₃) = both (at_place B) _ t₂ in
       let (s, k) = both (at_place S) _ t₃ in
-      let each : (p : Place) → T (at_place p) = λ p. elim p [ R ↦ r | A ↦ a | B ↦ b | S ↦ s ] in
+      let each : (p : Place) → T (at_place p) = λ p. elim p as (λ q. T (at_place q)) [ R ↦ r | A ↦ a | B ↦ b | S ↦ s ] in
       record {
         used = λ p. field_used (uses (kind_of ρ.kind) p) n (word ρ p) (each p);
         unused = λ p. field_unused (uses (kind_of ρ.kind) p) n (word ρ p) (each p);

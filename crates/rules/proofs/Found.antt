@@ -89,7 +89,7 @@ module _ {P : Table → Type 0} {w : List ℕ} {t : Table} {ρ : Rule} (ok : Pro
       go [] e = found_stuck (no_fit told (λ f h. any_none (rw e at (fits_complete (shape w ρ) (span t ρ) widths f h))))
       go (f ∷ l) e =
           found_else _ (place_found f l e R) λ r. found_else _ (place_found f l e A) λ a. found_else _ (place_found f l e B) λ b.
-          found_imp (λ s. same_tight f l e (λ p. elim p [ R ↦ r | A ↦ a | B ↦ b | S ↦ s ])) (place_found f l e S)
+          found_imp (λ s. same_tight f l e (λ p. elim p as (λ q. Same f l q) [ R ↦ r | A ↦ a | B ↦ b | S ↦ s ])) (place_found f l e S)
 
 pub step_found : {P : Table → Type 0} {w : List ℕ} {t : Table} → Proper w t → (rs : List Rule) → All (λ ρ. (s : Table) → P s → TightAt w s ρ) rs
     → Found P t (All (TightAt w t) rs) (step w rs t)

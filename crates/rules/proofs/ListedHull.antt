@@ -25,11 +25,13 @@ join p f (g ∷ l) = bit_or (f p) (join p g l)
 
 meet_le : (p : Place) (f : Place → ℕ) (l : List (Place → ℕ)) {x : ℕ} → Any (λ g. x ≡ g p) (f ∷ l) → meet p f l ⊑ x
 meet_le p f [] (here e) = rw e (⊑_refl (f p))
+meet_le p f [] (there a) = elim a [ ]
 meet_le p f (g ∷ l) (here e) = record { bits = λ j. omega (arith, bit_and_lem j (f p) (meet p g l), ap (λ (n : ℕ). bit n j) e) }
 meet_le p f (g ∷ l) (there a) = record { bits = λ j. omega (arith, bit_and_lem j (f p) (meet p g l), (meet_le p g l a).bits j) }
 
 join_ge : (p : Place) (f : Place → ℕ) (l : List (Place → ℕ)) {x : ℕ} → Any (λ g. x ≡ g p) (f ∷ l) → x ⊑ join p f l
 join_ge p f [] (here e) = rw e (⊑_refl (f p))
+join_ge p f [] (there a) = elim a [ ]
 join_ge p f (g ∷ l) (here e) = record { bits = λ j. omega (arith, bit_or_lem j (f p) (join p g l), ap (λ (n : ℕ). bit n j) e) }
 join_ge p f (g ∷ l) (there a) = record { bits = λ j. omega (arith, bit_or_lem j (f p) (join p g l), (join_ge p g l a).bits j) }
 
