@@ -1,4 +1,3 @@
--- `problem::kinds::row`: the constant table has what the rows of "Rules" say, by one test of all its entries.
 use mathlib.Core.Path.{◌≡◌, subst}
 use mathlib.Core.Bool.{Bool, ◌&&◌}
 use mathlib.Core.List.{List, [], ◌∷◌}
@@ -13,8 +12,7 @@ use Rattle.lists.proofs.Bools.{both}
 use Rattle.problem.specs.Lent.{fields}
 use Rattle.problem.specs.Rows.{row_entry}
 use Rattle.lists.proofs.Entries.{every, entries}
-use Rattle.problem.proofs.kinds.row.Statement.{statement}
-use Rattle.problem.proofs.kinds.row.Tie as tie
+use Rattle.problem.proofs.kinds.row.Goals as goal
 
 rows : List (List ℕ)
 rows =
@@ -50,21 +48,6 @@ row_at κ c h m =
     let e : suc (κ - 1) ≡ κ = omega arith in
     subst (λ x. get_or (get_or rows (κ - 1) []) c 0 ≡ row_entry (kind_of x) c) e (row-right (κ - 1) c (omega arith) m)
 
-sub_at : tie.Need-overflow-sub-at
-sub_at c = search rules
-
-mul-result : tie.Need-overflow-mul-result
-mul-result c = search rules
-
-index-1-result : tie.Need-bounds-1-result
-index-1-result c = search rules
-
-index-2-result : tie.Need-bounds-2-result
-index-2-result c = search rules
-
-returns : tie.Need-returns
+pub returns : goal.returns
 unfolding rows
-returns c = row_at c.before.args.kind c.before.args.column c.before.requires.0 c.before.requires.1
-
-pub row-spec : {M : Type 1} → statement M
-row-spec = tie.close (tie.spec sub_at mul-result index-1-result index-2-result returns)
+returns c = row_at c.args.kind c.args.column c.requires.0 c.requires.1
