@@ -4,7 +4,7 @@ ghost use Rattle.std.specs.Prelude.{◌≡◌, ◌+◌, ◌*◌, ◌%◌, ◌<�
 ghost use Rattle.blocks.specs.Block.{sixteen, sum};
 
 // What a file holds: so many words and rules, and the limit.
-#[derive(Drop)]
+#[derive(Clone, Copy)]
 pub struct Problem {
     pub words: usize,
     pub rules: usize,
@@ -12,14 +12,14 @@ pub struct Problem {
 }
 
 // The answer of reading: a problem, or the number of a refusal and its place.
-#[derive(Drop)]
+#[derive(Clone, Copy)]
 pub enum Reading {
     Ok(Problem),
     Refused(u64, u64),
 }
 
 // The answer of writing: the file's length, or the number of a refusal and its place.
-#[derive(Drop)]
+#[derive(Clone, Copy)]
 pub enum Written {
     Ok(usize),
     Refused(u64, u64),

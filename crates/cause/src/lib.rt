@@ -8,7 +8,7 @@ ghost use Rattle.cause.specs.Promise.{Causing, NoneFirst, CauseGiven};
 
 // The answer: settings exist, with the first search's count; a search gave up, with the sum; or the cause, with the sum and how many rules it names.
 // Or the number of the first refusal, and its place.
-#[derive(Drop)]
+#[derive(Clone, Copy)]
 pub enum Caused {
     Exists(u64),
     GaveUp(u64),
@@ -17,7 +17,7 @@ pub enum Caused {
 }
 
 // What one trial has come to: whether it was decided, its count, and how many rules are kept then.
-#[derive(Drop)]
+#[derive(Clone, Copy)]
 struct Trial {
     decided: bool,
     count: u64,
@@ -25,7 +25,7 @@ struct Trial {
 }
 
 // What all trials have come to: whether all were decided, the sum of the counts, and how many rules are kept.
-#[derive(Drop)]
+#[derive(Clone, Copy)]
 struct Trimmed {
     decided: bool,
     sum: u64,

@@ -26,7 +26,7 @@ pub const FIT: u64 = 8;
 pub const LIMIT: u64 = 9;
 
 // The answer: the problem is proper, or the number of the first refusal and its place.
-#[derive(Drop)]
+#[derive(Clone, Copy)]
 pub enum Checked {
     Ok,
     Refused(u64, u64),

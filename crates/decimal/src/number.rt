@@ -8,7 +8,7 @@ ghost use Rattle.decimal.specs.Putting.{Appended};
 use crate::BLANK;
 
 // A number and where it ends; or there is none.
-#[derive(Drop)]
+#[derive(Clone, Copy)]
 pub enum Number {
     Is(u64, usize),
     Bad,

@@ -13,7 +13,7 @@ ghost use Rattle.explain.specs.Asking.{shape_in, place_in, Asks};
 ghost use Rattle.explain.specs.Promise.{entries, Explanation, Judged, Explaining};
 
 // A question: the kind and number of a rule, the widths of its places, and the place and the bit that are asked for.
-#[derive(Drop)]
+#[derive(Clone, Copy)]
 struct Question {
     kind: usize,
     k: u64,
@@ -23,7 +23,7 @@ struct Question {
 }
 
 // What a rule says of a bit: it has no fit, all fits have this value, or neither.
-#[derive(Drop)]
+#[derive(Clone, Copy)]
 enum Said {
     Conflict,
     Forced(u64),
@@ -31,14 +31,14 @@ enum Said {
 }
 
 // How far the dropping has come: the bounds with the dropped bits open, and how many entries are kept.
-#[derive(Drop)]
+#[derive(Clone, Copy)]
 struct Kept {
     t: problem::Bounds,
     count: usize,
 }
 
 // The answer: CONFLICT with the number of entries of its reason, FORCED with the value and that number, FREE, or a refusal by its number and place.
-#[derive(Drop)]
+#[derive(Clone, Copy)]
 pub enum Explained {
     Conflict(u64),
     Forced(u64, u64),

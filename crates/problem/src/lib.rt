@@ -21,7 +21,7 @@ pub const RULES: usize = 252;
 pub const GUESSES: u32 = 1000000;
 
 // The fields of a rule.
-#[derive(Drop)]
+#[derive(Clone, Copy)]
 pub struct Fields {
     pub kind: usize,
     pub r: usize,
@@ -32,7 +32,7 @@ pub struct Fields {
 }
 
 // The widths of the words that stand at a rule's places.
-#[derive(Drop)]
+#[derive(Clone, Copy)]
 pub struct Widths {
     pub r: u64,
     pub a: u64,
@@ -41,7 +41,7 @@ pub struct Widths {
 }
 
 // The bounds of the four places of a rule.
-#[derive(Drop)]
+#[derive(Clone, Copy)]
 pub struct Bounds {
     pub rl: u64,
     pub rh: u64,

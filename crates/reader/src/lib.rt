@@ -19,7 +19,7 @@ const CHECK: u64 = 2;
 const LAYOUT: u64 = 3;
 
 // What a block with a given number is: words or rules, so many; the end, with the limit; or none of these.
-#[derive(Drop)]
+#[derive(Clone, Copy)]
 pub enum Body {
     Words(usize),
     Rules(usize),
@@ -28,7 +28,7 @@ pub enum Body {
 }
 
 // What a block makes of so many words and rules: more of them, the end, or a fault.
-#[derive(Drop)]
+#[derive(Clone, Copy)]
 pub enum Step {
     Go(usize, usize),
     Done(u32),
@@ -36,21 +36,21 @@ pub enum Step {
 }
 
 // How far the machine is: so many words and rules, or these with the limit after the end block.
-#[derive(Drop)]
+#[derive(Clone, Copy)]
 pub enum State {
     Going(usize, usize),
     Ended(usize, usize, u32),
 }
 
 // One block looked at: the next state, or the number and place of a refusal.
-#[derive(Drop)]
+#[derive(Clone, Copy)]
 pub enum Turn {
     On(State),
     Stop(u64, u64),
 }
 
 // All blocks looked at: the counts and the limit of a proper file, or the number and place of a refusal.
-#[derive(Drop)]
+#[derive(Clone, Copy)]
 pub enum Scan {
     Whole(Problem),
     Refused(u64, u64),

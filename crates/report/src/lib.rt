@@ -14,7 +14,7 @@ use printing::{put_refused, put_sat, put_unknown, put_unnamed, put_unsat};
 use solve::Solved;
 
 // The answer: the lines stand in front of the lent bytes, so many; or the number of a refusal of what was lent, and its place.
-#[derive(Drop)]
+#[derive(Clone, Copy)]
 pub enum Advised {
     Lines(usize),
     Refused(u64, u64),

@@ -8,7 +8,7 @@ ghost use Rattle.search.specs.Searching.{Begun, Searched, Prepared};
 ghost use Rattle.search.specs.Starting.{ToSearch, Sought};
 
 // What a search has come to: the settings are the low bounds of the table; there are none; or one more guess was needed than allowed.
-#[derive(Drop)]
+#[derive(Clone, Copy)]
 pub enum Answer {
     Found(u64),
     Nothing(u64),
@@ -16,7 +16,7 @@ pub enum Answer {
 }
 
 // What one table has come to: an answer; or a guess at a word, with the entries of the trail that there are now.
-#[derive(Drop)]
+#[derive(Clone, Copy)]
 enum Step {
     Ends(Answer),
     Guesses(usize, usize),

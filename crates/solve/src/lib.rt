@@ -5,7 +5,7 @@ ghost use Rattle.solve.specs.Promise.{Stored, Solving, SolveGiven};
 
 // The answer: the first settings are in the model; there are none; one more guess was needed than allowed; each with its count.
 // Or the number of the first refusal, and its place.
-#[derive(Drop)]
+#[derive(Clone, Copy)]
 pub enum Solved {
     Found(u64),
     Nothing(u64),

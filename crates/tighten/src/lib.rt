@@ -10,7 +10,7 @@ ghost use Rattle.tighten.specs.Promise.{tighten_work, TightenEnds, Tightening};
 ghost use Rattle.tighten.specs.Ready.{Ready, Listed, Swept, Settled};
 
 // What meeting bounds has come to: whether there may still be a fit, and whether a bound changed.
-#[derive(Drop)]
+#[derive(Clone, Copy)]
 pub struct Met {
     pub fit: bool,
     pub changed: bool,
@@ -55,7 +55,7 @@ pub fn settle(work: &mut [u64], words: &[u64], rules: &[u8], count: usize) -> bo
 }
 
 // The answer: the bounds of the words are those of the widest tight table; there is none; or the number of the first refusal, and its place.
-#[derive(Drop)]
+#[derive(Clone, Copy)]
 pub enum Answer {
     Tight,
     Conflict,
