@@ -61,7 +61,7 @@ last_class (suc (suc (suc (suc (suc n))))) z a b c d = refl
 
 words_placed : (ws : List ℕ) (x : Fields) → width_of (widths_at ws x) ≡ (λ p. width_at ws (word (rule_of x) p))
 unfolding widths_at
-words_placed ws x = fun_ext (λ p. elim p [ R ↦ refl | A ↦ refl | B ↦ refl | S ↦ refl ])
+words_placed ws x = fun_ext (λ p. elim p as (λ q. width_of (widths_at ws x) q ≡ width_at ws (word (rule_of x) q)) [ R ↦ refl | A ↦ refl | B ↦ refl | S ↦ refl ])
 
 pub fitting : (ws : List ℕ) (x : Fields) (c : ℕ) (w : Widths) → c ≡ row_entry (kind_of x.kind) 0 → w ≡ widths_at ws x
     → fits_as (class_of c) (width_of w) x.k ≡ is_fitting ws (rule_of x)
