@@ -22,7 +22,7 @@ returns-then-not-one_to c =
     (sym (ap (λ ρ. is_kind ρ.kind) (ap rule_of c.fields_of-x.ensures.0 ∙ rule_read _ _)) ∙ sym c.one_to.ensures ∙ not-true _ c.if-not-one_to.true-raw)
 
 pub are_fields-requires : goal.are_fields-requires
-are_fields-requires c = kind_told _ c.one_to.ensures (not-false _ c.if-not-one_to.false-raw)
+are_fields-requires c = kind_told c.fields_of-x.result c.one_to.ensures (not-false _ c.if-not-one_to.false-raw)
 
 pub returns-then-not-are_fields : goal.returns-then-not-are_fields
 returns-then-not-are_fields c =
@@ -31,7 +31,7 @@ returns-then-not-are_fields c =
     (sym (ap (are_fields _) same) ∙ sym c.are_fields.ensures ∙ not-true _ c.if-not-are_fields.true-raw)
 
 pub is_fitting-requires : goal.is_fitting-requires
-is_fitting-requires c = (kind_told _ c.one_to.ensures (not-false _ c.if-not-one_to.false-raw), c.fields_of-x.ensures.1)
+is_fitting-requires c = (kind_told c.fields_of-x.result c.one_to.ensures (not-false _ c.if-not-one_to.false-raw), c.fields_of-x.ensures.1)
 
 pub returns-then-not-is_fitting : goal.returns-then-not-is_fitting
 returns-then-not-is_fitting c =
