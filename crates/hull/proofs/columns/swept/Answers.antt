@@ -1,0 +1,7 @@
+use Rattle.std.proofs.Common.{rules}
+use Rattle.hull.specs.ByColumns.{swept_of}
+use Rattle.hull.proofs.columns.swept.Goals as goal
+
+pub returns : goal.returns
+unfolding swept_of
+returns c = cc

@@ -1,0 +1,7 @@
+use Rattle.hull.specs.Columns.{allowed_in}
+use Rattle.std.proofs.Common.{rules}
+use Rattle.hull.proofs.sweep.allowed.Goals as goal
+
+pub returns : goal.returns
+unfolding allowed_in
+returns c = cc

@@ -1,0 +1,7 @@
+use Rattle.hull.specs.Columns.{widened}
+use Rattle.std.proofs.Common.{rules}
+use Rattle.hull.proofs.sweep.widen.Goals as goal
+
+pub returns : goal.returns
+unfolding widened
+returns c = cc
