@@ -82,7 +82,12 @@ module _ (w : List ℕ) (n : ℕ) (l : List ℕ) (x : Fields) (o : Narrowed) (mo
       let (eb, cb, lb, hb) = back _ B (next _ A (next _ R start)) es cs in
       let (ea, ca, la, ha) = back _ A (next _ R start) eb cb in
       let (er, cr, lr, hr) = back _ R start ea ca in
-      unchanged_tight w (table_in n l) (rule_of x) o nar er (λ p. elim p [ R ↦ λ u. (lr, hr) | A ↦ λ u. (la, ha) | B ↦ λ u. (lb, hb) | S ↦ λ u. (ls, hs) ])
+      let unchanged : (p : Place) → (bit_or (at (table_in n l).lo (word (rule_of x) p)) (lo_of o.t p) ≡ at (table_in n l).lo (word (rule_of x) p))
+      × (bit_and (at (table_in n l).hi (word (rule_of x) p)) (hi_of o.t p) ≡ at (table_in n l).hi (word (rule_of x) p)) =
+      λ p. elim p as (λ q. (bit_or (at (table_in n l).lo (word (rule_of x) q)) (lo_of o.t q) ≡ at (table_in n l).lo (word (rule_of x) q))
+      × (bit_and (at (table_in n l).hi (word (rule_of x) q)) (hi_of o.t q) ≡ at (table_in n l).hi (word (rule_of x) q)))
+      [ R ↦ (lr, hr) | A ↦ (la, ha) | B ↦ (lb, hb) | S ↦ (ls, hs) ] in
+      unchanged_tight w (table_in n l) (rule_of x) o nar er (λ p u. unchanged p)
 
   pub applied_stepped : Stepped P n (table_in n l) (table_in n (met_all (begun o l) x o.t).memory) (met_all (begun o l) x o.t).met
   unfolding met_all met at_place

@@ -10,7 +10,7 @@ use Rattle.lists.specs.Lists.{at}
 use Rattle.rules.specs.Kinds.{Place, R, A, B, S}
 use Rattle.problem.specs.Places.{lo_of, hi_of, shape_of, span_of}
 use Rattle.rules.specs.Fits.{Legal}
-use Rattle.rules.specs.Tight.{word, shape, span}
+use Rattle.rules.specs.Tight.{Rule, word, shape, span}
 use Rattle.rules.specs.ProperProblem.{KindNumber, ProperRule}
 use Rattle.rules.proofs.ProperRules.{rule_legal}
 use Rattle.rules.proofs.Propers.{proper_inside}
@@ -90,7 +90,8 @@ module _ {ws bs l : List ℕ} (ready : Ready ws bs l) (j : ℕ) (listed : j < ru
     applied o h r m e =
         let same : rule_of x ≡ rule_at bs j = ap rule_of read in
         let n : Narrows (shape (widths_of ws) (rule_of x)) (span (table_in (word_count ws) l) (rule_of x)) o =
-        rw same (narrows ready j listed (rw (wide, bounds, read) at h)) in
+        subst (λ (ρ : Rule). Narrows (shape (widths_of ws) ρ) (span (table_in (word_count ws) l) ρ) o) (sym same)
+        (narrows ready j listed (rw (wide, bounds, read) at h)) in
         let whole = proper_inside ready.table in
         subst (λ (s : State). Applied ws bs j l s.memory s.met) (sym e)
         (record {
