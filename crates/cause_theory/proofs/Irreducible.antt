@@ -29,6 +29,7 @@ hold_each {w} {v} rs xs h = record { each = go xs h }
     go (y ∷ ys) f (suc n) l = go ys (λ k i. f k (there i)) n (omega arith)
 
 rule_map : (rs : List Rule) (xs : List ℕ) (k : ℕ) → In k xs → (n : ℕ) × (n < length xs) × (rule (map (rule rs) xs) n ≡ rule rs k)
+rule_map rs [] k x' = elim x' [ ]
 rule_map rs (x ∷ xs) k (here e) = (0, omega arith, ap (rule rs) (sym e))
 rule_map rs (x ∷ xs) k (there i) = let (n, l, e) = rule_map rs xs k i in (suc n, omega arith, e)
 

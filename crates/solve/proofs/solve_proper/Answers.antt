@@ -1,0 +1,28 @@
+use native.Mathlib.Omega.{arith}
+use Rattle.solve.proofs.Calling.{work_room, model_room, fine, asked, memory_room, end_found, end_none, end_gave_up}
+use borrow.Author.Rules.{rules}
+use Rattle.solve.proofs.solve_proper.Goals as goal
+
+pub list_all-requires : goal.list_all-requires
+list_all-requires c =
+    (omega (arith, (fine c.requires).sized.rules), omega (arith, (fine c.requires).sized.rules, work_room c.requires))
+
+pub search_problem-requires : goal.search_problem-requires
+search_problem-requires c =
+    asked c.requires c.list_all.ensures (omega arith)
+
+pub store-requires : goal.store-requires
+store-requires c =
+    (omega (arith, model_room c.requires), omega (arith, memory_room c.requires c.list_all.ensures c.search_problem.ensures))
+
+pub returns-in-Found : goal.returns-in-Found
+returns-in-Found c =
+    end_found c.requires c.list_all.ensures c.search_problem.ensures (omega arith) c.in-Found.is c.store.ensures c.clear.ensures
+
+pub returns-in-Nothing : goal.returns-in-Nothing
+returns-in-Nothing c =
+    end_none c.requires c.list_all.ensures c.search_problem.ensures (omega arith) c.in-Nothing.is c.clear-in-Nothing.ensures
+
+pub returns-in-GaveUp : goal.returns-in-GaveUp
+returns-in-GaveUp c =
+    end_gave_up c.requires c.list_all.ensures c.search_problem.ensures (omega arith) c.in-GaveUp.is c.clear-in-GaveUp.ensures
