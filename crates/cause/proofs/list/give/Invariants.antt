@@ -1,0 +1,12 @@
+use mathlib.Core.Path.{◌≡◌}
+use Prim.Native.Nat.{◌≤◌, ◌-◌}
+use native.Mathlib.Omega.{arith}
+use Rattle.cause.specs.Listing.{Held}
+use Rattle.cause.proofs.Shifting.{held_start, held_turn}
+use Rattle.cause.proofs.list.give.Given as goal
+
+abbrev pub invariant-loop-j : goal.invariant-loop-j
+invariant-loop-j l = Held l.j l.work l.initial.list l.list × (l.j ≤ l.k)
+
+abbrev pub decreases-loop-j : goal.decreases-loop-j
+decreases-loop-j l = l.k - l.j
