@@ -7,7 +7,6 @@ use native.Mathlib.Omega.{arith}
 use native.Mathlib.Decide.{ℕ_discrete}
 use lib.ListN.{length, take, length-take}
 use lib.Seq.{ext_get_or, get_or-take}
-use Rattle.lists.specs.Lists.{at}
 use Rattle.rules.proofs.Propers.{proper_inside}
 use Rattle.problem.specs.Lent.{table_of}
 use Rattle.search_theory.specs.Settings.{Settings, Without}

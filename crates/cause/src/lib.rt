@@ -1,5 +1,6 @@
 // The call `cause`: why a problem has no settings, as the rules that remain when, from the last to the first, each that can be spared is dropped.
 #![tactic(auto)]
+
 mod dropping;
 mod list;
 

@@ -1,7 +1,7 @@
 -- The trials for a cause: each has its own ceiling, a limit that reaches all of them never gives up, and the sum is at most their sum.
 use mathlib.Core.Path.{◌≡◌, refl, sym, ap, ◌∙◌}
 use mathlib.Core.Logic.{◌≢◌, ◌⊎◌, inl, inr}
-use mathlib.Core.List.{List, [], ◌∷◌}
+use mathlib.Core.List.{List}
 use Prim.Native.Nat.{ℕ, ◌+◌, ◌≤◌}
 use native.Mathlib.Omega.{arith}
 use Rattle.cause_theory.specs.Trials.{trials, searches, sum_over, SearchCeiling, tightens, conflicts}

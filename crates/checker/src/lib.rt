@@ -1,5 +1,6 @@
 // A problem checked: its sizes, its words, its rules and its limit, in that order. The first refusal and its place come back; nothing lent is written.
 #![tactic(auto)]
+
 mod fit;
 mod rule;
 mod word;

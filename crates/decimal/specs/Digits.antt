@@ -1,6 +1,6 @@
 -- To be believed: digits, as bytes.
 -- Mirrors code: `digit_of`.
-use Rattle.std.specs.Prelude.{◌≡◌, List, [], ◌∷◌, ℕ, ◌+◌, ◌*◌, ◌^◌, ◌≤◌, ◌<◌, min, ◌-◌}
+use Rattle.std.specs.Prelude.{List, [], ◌∷◌, ℕ, ◌+◌, ◌*◌, ◌≤◌, min, ◌-◌}
 
 -- a byte that is a digit
 pub record Digit (x : ℕ) : Type 0 where

@@ -1,5 +1,6 @@
 // Decimal numbers and bytes put into lent bytes, one behind the other, and decimal numbers read.
 #![tactic(auto)]
+
 pub mod number;
 
 ghost use Rattle.std.specs.Prelude.{◌+◌, ◌≤◌, length};

@@ -1,5 +1,5 @@
 -- What is computed for each kind is the hull: the theorem of the fourteen kinds. And what each function asks of a rule follows from a legal one.
-use Rattle.std.proofs.Common.{◌≡◌, ℕ, zero, suc, ◌+◌, ◌-◌, ◌<◌, T, ◌≢◌, refl, arith}
+use Rattle.std.proofs.Common.{◌≡◌, ℕ, zero, suc, ◌<◌, T, ◌≢◌, refl, arith}
 use Rattle.words.specs.Word.{Width}
 use Rattle.rules.specs.Kinds.{R, A, B, COPY, NOT, AND, OR, XOR, ADD, ITE, SLICE, JOIN, SHL, SHR, ULE, ULT, NE, Kind, op, rel, kind_of}
 use Rattle.problem.specs.Places.{width_of, shaped, shape_of, span_of}

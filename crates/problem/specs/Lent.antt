@@ -1,5 +1,5 @@
 -- To be believed: lent numbers as a problem: three numbers a word, six bytes a rule, one after the other.
-use Rattle.std.specs.Prelude.{List, [], ◌∷◌, ℕ, ◌+◌, ◌*◌, ◌/◌, length}
+use Rattle.std.specs.Prelude.{List, ℕ, ◌+◌, ◌*◌, ◌/◌, length}
 use Rattle.words.specs.Table.{Table}
 use Rattle.lists.specs.Lists.{at, series}
 use Rattle.rules.specs.Tight.{Rule}

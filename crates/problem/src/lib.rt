@@ -1,5 +1,6 @@
 // What a lent problem is: numbers that stand for words and rules, the fixed table of kinds, and a rule's fields, widths and bounds, read in one place.
 #![tactic(auto)]
+
 pub mod kinds;
 
 ghost use Rattle.std.specs.Prelude.{◌≡◌, ◌+◌, ◌*◌, ◌<◌, length};

@@ -1,7 +1,6 @@
 -- A table without open bits is tight just where its values make all rules hold; and tight tables under more rules, or under the same in another order.
-use mathlib.Core.Path.{◌≡◌}
 use mathlib.Core.List.{List}
-use Prim.Native.Nat.{ℕ, ◌<◌}
+use Prim.Native.Nat.{ℕ}
 use Rattle.words.specs.Table.{Table, point}
 use Rattle.rules.specs.Tight.{Rule, Tight, AllHold, rule, RulesIn}
 use Rattle.rules.proofs.Tight.{holds_tight, tight_holds}

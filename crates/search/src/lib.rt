@@ -1,6 +1,7 @@
 // The published search over lent memory: the present table at 0..64, the numbers of the rules at 64..316, a copy of the last tight table at 316..380,
 // then the trail that takes its changes back. Nothing is kept on the stack but a level's own numbers.
 #![tactic(auto)]
+
 mod guess;
 
 ghost use Rattle.std.specs.Prelude.{◌+◌};

@@ -2,7 +2,6 @@
 use mathlib.Core.Path.{◌≡◌, refl, ap}
 use mathlib.Core.List.{List}
 use Prim.Native.Nat.{ℕ}
-use native.Mathlib.Omega.{arith}
 use Rattle.checker.proofs.Firsts.{refused_not_ok}
 use Rattle.lists.specs.Lists.{at}
 use Rattle.rules.specs.Tight.{Tight}
@@ -12,7 +11,6 @@ use Rattle.search_theory.specs.Search.{Outcome}
 use Rattle.search_theory.proofs.Outcomes.{found_not_none, found_not_gave_up, none_not_gave_up}
 use Rattle.search_theory.proofs.Unique.{one_outcome}
 use Rattle.solve.specs.declared.Solved.{Solved}
-use Rattle.solve.specs.declared.Solved.TheVariants as answer
 use Rattle.solve.specs.Promise.{Comes, Solving, refused, found_first, found_none, gave_up_at}
 use Rattle.solve.proofs.Storing.{stored_once}
 

@@ -10,7 +10,6 @@ use Rattle.lists.specs.Lists.{at, series}
 use Rattle.rules.specs.Kinds.{kind_of}
 use Rattle.rules.specs.Tight.{Tight}
 use Rattle.rules.proofs.Steps.{tightened}
-use Rattle.checker.specs.declared.Checked.TheVariants.{Refused}
 use Rattle.problem.specs.Lent.{widths_of, table_of, rules_of}
 use Rattle.checker.specs.Tests.{sized, are_fields, is_fitting}
 use Rattle.checker.specs.Refusal.{refusal_with, refusal, first_of, word_refusal, rule_refusal}

@@ -1,5 +1,6 @@
 // The call `solve`: the published search of a problem, its settings put into the model.
 #![tactic(auto)]
+
 ghost use Rattle.std.specs.Prelude.{◌≤◌, length};
 ghost use Rattle.solve.specs.Promise.{Stored, Solving, SolveGiven};
 

@@ -1,5 +1,5 @@
 -- Mirrors code: one rule's narrowing put into work memory: its fields, the bounds and widths of its words, and bounds met with others.
-use Rattle.std.specs.Prelude.{Bool, true, false, not, ◌&&◌, ◌||◌, List, ℕ, ◌+◌, ◌*◌, eqb, set}
+use Rattle.std.specs.Prelude.{Bool, true, false, not, ◌&&◌, ◌||◌, List, ℕ, ◌+◌, eqb, set}
 use Rattle.std.specs.Int.Bits.{bit_and, bit_or}
 use Rattle.words.specs.Bits.{under}
 use Rattle.lists.specs.Lists.{at}

@@ -1,6 +1,6 @@
 -- To be believed: what the call `tighten` promises: its answer, and every lent number afterwards.
 -- Mirrors code: `TightenEnds`.
-use Rattle.std.specs.Prelude.{◌≡◌, Bool, true, false, List, ℕ, ◌≤◌, length}
+use Rattle.std.specs.Prelude.{◌≡◌, Bool, true, false, List, ℕ, length}
 use Rattle.words.specs.Table.{Table}
 use Rattle.rules.specs.Tight.{Tight}
 use Rattle.rules.specs.Tightening.{Widest, Conflict}

@@ -1,6 +1,7 @@
 // Tightening: the rules are applied in turn until none changes the table.
 // The table is in lent work memory: the low bounds of the words at 0..32, their high bounds at 32..64, then the numbers of the rules.
 #![tactic(auto)]
+
 pub mod buffer;
 mod rule;
 

@@ -1,6 +1,7 @@
 // The copy of the last tight table, and the trail that takes its changes back, in one lent memory: the table at 0..64, the copy at 316..380, then the trail.
 // An entry of the trail is two numbers: which number of the copy changed, and what it was.
 #![tactic(auto)]
+
 ghost use Rattle.std.specs.Prelude.{◌⊎◌, ◌+◌, ◌*◌, ◌<◌, ◌≤◌, length};
 ghost use Rattle.lists.specs.Lists.{at};
 ghost use Rattle.trail.specs.Trail.{apart, changes, Kept, Committed, Back, RolledBack, Moved};

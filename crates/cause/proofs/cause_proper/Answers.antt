@@ -1,6 +1,5 @@
 use native.Mathlib.Omega.{arith}
 use Rattle.cause.proofs.Calling.{work_room, fine, asked, end_exists, end_gave_up, end_none, end_trials}
-use borrow.Author.Rules.{rules}
 use Rattle.cause.proofs.cause_proper.Goals as goal
 
 pub list_all-requires : goal.list_all-requires

@@ -1,7 +1,6 @@
 use native.Mathlib.Omega.{arith}
 use borrow.Author.Tests.{not-true, not-false}
 use Rattle.cause.proofs.Calling.{work_room, fine, trimming, gave_up_end, not_empty, give_room, cause_end}
-use borrow.Author.Rules.{rules}
 use Rattle.cause.proofs.trials.Goals as goal
 
 pub list_all-requires : goal.list_all-requires

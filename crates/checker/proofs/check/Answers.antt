@@ -1,5 +1,4 @@
 use mathlib.Core.Path.{sym, ◌∙◌}
-use borrow.Author.Rules.{rules}
 use Rattle.checker.proofs.Answers.{refused_problem, refused_limit, ok_limit}
 use Rattle.checker.proofs.check.Goals as goal
 

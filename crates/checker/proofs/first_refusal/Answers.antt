@@ -1,8 +1,5 @@
-use mathlib.Core.Path.{◌≡◌, sym, ◌∙◌}
-use mathlib.Core.Bool.{true}
-use borrow.Author.Rules.{rules}
+use mathlib.Core.Path.{sym, ◌∙◌}
 use borrow.Author.Tests.{not-true, not-false}
-use Rattle.checker.specs.Tests.{sized}
 use Rattle.checker.proofs.Answers.{refused_size, refused_words, ok_words}
 use Rattle.checker.proofs.first_refusal.Goals as goal
 

@@ -1,10 +1,7 @@
-use mathlib.Core.Path.{refl, ◌≡◌}
-use Prim.Native.Nat.{◌+◌, ◌≤◌, ◌-◌}
+use mathlib.Core.Path.{refl}
 use native.Mathlib.Omega.{arith}
-use borrow.Author.Rules.{rules}
-use lib.ListN.{length, take, length-set}
+use lib.ListN.{length-set}
 use Rattle.decimal.proofs.Puts.{bytes_start, bytes_turn, bytes_end}
-use Rattle.decimal.specs.Putting.{Appended}
 use Rattle.decimal.proofs.put_bytes.Goals as goal
 
 pub loop-i-init : goal.loop-i-init

@@ -1,9 +1,6 @@
-use mathlib.Core.Path.{refl, ◌≡◌}
+use mathlib.Core.Path.{◌≡◌}
 use Prim.Native.Nat.{◌+◌, ◌≤◌, ◌-◌}
-use native.Mathlib.Omega.{arith}
-use borrow.Author.Rules.{rules}
-use lib.ListN.{length, take, length-set}
-use Rattle.decimal.proofs.Puts.{bytes_start, bytes_turn, bytes_end}
+use lib.ListN.{length, take}
 use Rattle.decimal.specs.Putting.{Appended}
 use Rattle.decimal.proofs.put_bytes.Given as goal
 

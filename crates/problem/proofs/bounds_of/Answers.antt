@@ -1,5 +1,4 @@
 use Rattle.problem.specs.Reading.{bounds_at}
-use borrow.Author.Rules.{rules}
 use Rattle.problem.proofs.bounds_of.Goals as goal
 
 pub returns : goal.returns

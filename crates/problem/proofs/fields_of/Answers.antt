@@ -1,6 +1,5 @@
 use Rattle.problem.specs.Reading.{fields_at}
 use native.Mathlib.Omega.{arith}
-use borrow.Author.Rules.{rules}
 use Rattle.problem.proofs.fields_of.Goals as goal
 
 pub returns : goal.returns

@@ -1,6 +1,5 @@
 use mathlib.Core.Path.{sym}
 use lib.ListN.{get_or-eq_default}
-use borrow.Author.Rules.{rules}
 use Rattle.problem.proofs.number_at.Goals as goal
 
 pub returns-else-i-words : goal.returns-else-i-words

@@ -1,5 +1,4 @@
 use Rattle.problem.specs.Reading.{widths_at}
-use borrow.Author.Rules.{rules}
 use Rattle.problem.proofs.widths_of.Goals as goal
 
 pub returns : goal.returns

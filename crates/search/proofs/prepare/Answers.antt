@@ -1,7 +1,6 @@
 use native.Mathlib.Omega.{arith}
 use borrow.Author.Tests.{not-true, not-false}
 use Rattle.search.proofs.Preparing.{prepared_none, prepared_found, prepared_stopped, commit_room, commit_fixable, prepared_guess}
-use borrow.Author.Rules.{rules}
 use Rattle.search.proofs.prepare.Goals as goal
 
 pub returns-then-not-settle : goal.returns-then-not-settle

@@ -1,7 +1,6 @@
 use mathlib.Core.Logic.{inl}
 use native.Mathlib.Omega.{arith}
 use Rattle.search.proofs.Starts.{problem_begun, problem_sought}
-use borrow.Author.Rules.{rules}
 use Rattle.search.proofs.search_problem.Goals as goal
 
 pub copy_table-requires : goal.copy_table-requires

@@ -1,7 +1,6 @@
 use mathlib.Core.Path.{sym, ◌∙◌}
 use native.Mathlib.Omega.{arith}
 use Rattle.solve.proofs.Calling.{short_work, short_model, problem_refused, nothing_refused}
-use borrow.Author.Rules.{rules}
 use Rattle.solve.proofs.solve.Goals as goal
 
 pub returns-then-work-lt-WORK : goal.returns-then-work-lt-WORK

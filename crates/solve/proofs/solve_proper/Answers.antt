@@ -1,6 +1,5 @@
 use native.Mathlib.Omega.{arith}
 use Rattle.solve.proofs.Calling.{work_room, model_room, fine, asked, memory_room, end_found, end_none, end_gave_up}
-use borrow.Author.Rules.{rules}
 use Rattle.solve.proofs.solve_proper.Goals as goal
 
 pub list_all-requires : goal.list_all-requires

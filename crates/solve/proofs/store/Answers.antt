@@ -1,7 +1,5 @@
 use mathlib.Core.Path.{◌≡◌}
-use Prim.Native.Nat.{◌≤◌, ◌-◌}
 use native.Mathlib.Omega.{arith}
-use Rattle.solve.specs.Promise.{Stored}
 use Rattle.solve.proofs.Storing.{stored_start, stored_turn}
 use Rattle.solve.proofs.store.Goals as goal
 

@@ -1,9 +1,7 @@
-use mathlib.Core.Path.{◌∙◌}
-use borrow.Author.Tests.{not-true, not-false}
 use Rattle.words.specs.Count.{open_below}
 use Rattle.problem.specs.Lent.{word_count}
 use Rattle.tighten.specs.Memory.{table_in}
-use Rattle.tighten.proofs.Sweeping.{Settling, settling_start, settling_ready, settling_listed, settling_none, settling_step, settling_end}
+use Rattle.tighten.proofs.Sweeping.{Settling}
 use Rattle.tighten.proofs.settle.Given as goal
 
 abbrev pub invariant-loop-m : goal.invariant-loop-m

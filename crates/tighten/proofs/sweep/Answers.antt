@@ -1,8 +1,7 @@
 use mathlib.Core.Path.{◌≡◌, ◌∙◌}
 use borrow.Author.Tests.{not-true, not-false}
-use Prim.Native.Nat.{◌≤◌, ◌-◌}
 use native.Mathlib.Omega.{arith}
-use Rattle.tighten.proofs.Sweeping.{Passing, passing_start, still_ready, next_listed, passing_none, passing_step, passing_end}
+use Rattle.tighten.proofs.Sweeping.{passing_start, still_ready, next_listed, passing_none, passing_step, passing_end}
 use Rattle.tighten.proofs.sweep.Goals as goal
 
 pub loop-j-init : goal.loop-j-init

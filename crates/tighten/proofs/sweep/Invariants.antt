@@ -1,8 +1,5 @@
-use mathlib.Core.Path.{◌≡◌, ◌∙◌}
-use borrow.Author.Tests.{not-true, not-false}
 use Prim.Native.Nat.{◌≤◌, ◌-◌}
-use native.Mathlib.Omega.{arith}
-use Rattle.tighten.proofs.Sweeping.{Passing, passing_start, still_ready, next_listed, passing_none, passing_step, passing_end}
+use Rattle.tighten.proofs.Sweeping.{Passing}
 use Rattle.tighten.proofs.sweep.Given as goal
 
 abbrev pub invariant-loop-j : goal.invariant-loop-j

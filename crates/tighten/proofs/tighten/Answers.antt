@@ -1,7 +1,6 @@
 use mathlib.Core.Path.{sym, ◌∙◌}
 use Rattle.tighten.proofs.Calling.{short_refused, problem_refused, ended_answer}
 use Rattle.checker.proofs.Rooms.{problem_taken}
-use borrow.Author.Rules.{rules}
 use Rattle.tighten.proofs.tighten.Goals as goal
 
 pub returns-then-work-lt-WORK : goal.returns-then-work-lt-WORK

@@ -1,5 +1,4 @@
 use Rattle.tighten.proofs.Calling.{call_ready, call_listed, call_tight, call_conflict}
-use borrow.Author.Rules.{rules}
 use Rattle.tighten.proofs.tighten_proper.Goals as goal
 
 pub settle-requires : goal.settle-requires

@@ -1,30 +1,27 @@
 use mathlib.Core.Path.{◌≡◌}
-use Prim.Native.Nat.{◌≤◌, ◌-◌}
 use native.Mathlib.Omega.{arith}
-use Rattle.trail.proofs.Keeping.{Passing, passing_start, passing_step, low_room, high_room}
+use Rattle.trail.proofs.Keeping.{passing_start, passing_step, low_room, high_room}
 use Rattle.trail.proofs.commit.Goals as goal
 
 pub loop-i-init : goal.loop-i-init
 loop-i-init c = (passing_start c.args.base c.args.work.now, omega arith)
 
 pub keep-entries-requires : goal.keep-entries-requires
-keep-entries-requires c =
-    (
-      omega (arith, c.loop-i-test.true, c.requires.0),
-      omega (arith, c.requires.1, c.loop-i.invariant.0.done.size),
-      low_room c.loop-i.invariant.0 (omega (arith, c.loop-i-test.true, c.requires.0)) c.args.n c.loop-i-test.true c.requires.2,
-    )
+keep-entries-requires c = (
+  omega (arith, c.loop-i-test.true, c.requires.0),
+  omega (arith, c.requires.1, c.loop-i.invariant.0.done.size),
+  low_room c.loop-i.invariant.0 (omega (arith, c.loop-i-test.true, c.requires.0)) c.args.n c.loop-i-test.true c.requires.2,
+)
 
 pub overflow_add-i : goal.overflow_add-i
 overflow_add-i c = omega (arith, c.loop-i-test.true, c.requires.0)
 
 pub keep-entries-requires-in-loop-i : goal.keep-entries-requires-in-loop-i
-keep-entries-requires-in-loop-i c =
-    (
-      omega (arith, c.loop-i-test.true, c.requires.0),
-      omega (arith, c.requires.1, c.loop-i.invariant.0.done.size, c.keep-entries.ensures.size),
-      high_room c.loop-i.invariant.0 (omega (arith, c.loop-i-test.true, c.requires.0)) c.keep-entries.ensures c.args.n c.loop-i-test.true c.requires.2,
-    )
+keep-entries-requires-in-loop-i c = (
+  omega (arith, c.loop-i-test.true, c.requires.0),
+  omega (arith, c.requires.1, c.loop-i.invariant.0.done.size, c.keep-entries.ensures.size),
+  high_room c.loop-i.invariant.0 (omega (arith, c.loop-i-test.true, c.requires.0)) c.keep-entries.ensures c.args.n c.loop-i-test.true c.requires.2,
+)
 
 pub overflow_add-i-in-loop-i : goal.overflow_add-i-in-loop-i
 overflow_add-i-in-loop-i c = omega arith

@@ -1,7 +1,5 @@
-use mathlib.Core.Path.{◌≡◌}
 use Prim.Native.Nat.{◌≤◌, ◌-◌}
-use native.Mathlib.Omega.{arith}
-use Rattle.trail.proofs.Keeping.{Passing, passing_start, passing_step, low_room, high_room}
+use Rattle.trail.proofs.Keeping.{Passing}
 use Rattle.trail.proofs.commit.Given as goal
 
 abbrev pub invariant-loop-i : goal.invariant-loop-i

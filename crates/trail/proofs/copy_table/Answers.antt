@@ -1,8 +1,6 @@
 use mathlib.Core.Path.{◌≡◌}
-use Prim.Native.Nat.{◌≤◌, ◌-◌}
 use native.Mathlib.Omega.{arith}
 use lib.ListN.{length-set}
-use Rattle.trail.specs.Trail.{Moved}
 use Rattle.trail.proofs.Moving.{moved_start, moved_turn}
 use Rattle.trail.proofs.copy_table.Goals as goal
 

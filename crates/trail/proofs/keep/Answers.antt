@@ -2,7 +2,6 @@ use Prim.Native.Nat.{◌+◌, ◌*◌, ◌<◌}
 use native.Mathlib.Omega.{arith}
 use lib.ListN.{length, length-set}
 use Rattle.trail.proofs.Keeping.{apart_other, kept_same, kept_new}
-use borrow.Author.Rules.{rules}
 use Rattle.trail.proofs.keep.Goals as goal
 
 -- there is room for the entry

@@ -1,6 +1,5 @@
 use native.Mathlib.Omega.{arith}
 use Rattle.trail.proofs.Moving.{put_back, put_nothing}
-use borrow.Author.Rules.{rules}
 use Rattle.trail.proofs.put_back.Goals as goal
 
 pub returns-then-k-lt64 : goal.returns-then-k-lt64

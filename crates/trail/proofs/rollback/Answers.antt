@@ -1,7 +1,7 @@
 use mathlib.Core.Path.{◌≡◌}
-use Prim.Native.Nat.{◌+◌, ◌≤◌, ◌-◌}
+use Prim.Native.Nat.{◌+◌, ◌-◌}
 use native.Mathlib.Omega.{arith}
-use Rattle.trail.proofs.Undoing.{GoingBack, going_start, going_step, going_end}
+use Rattle.trail.proofs.Undoing.{going_start, going_step, going_end}
 use Rattle.trail.proofs.rollback.Goals as goal
 
 pub loop-j-init : goal.loop-j-init

@@ -1,7 +1,5 @@
-use mathlib.Core.Path.{◌≡◌}
-use Prim.Native.Nat.{◌+◌, ◌≤◌, ◌-◌}
-use native.Mathlib.Omega.{arith}
-use Rattle.trail.proofs.Undoing.{GoingBack, going_start, going_step, going_end}
+use Prim.Native.Nat.{◌≤◌}
+use Rattle.trail.proofs.Undoing.{GoingBack}
 use Rattle.trail.proofs.rollback.Given as goal
 
 abbrev pub invariant-loop-j : goal.invariant-loop-j

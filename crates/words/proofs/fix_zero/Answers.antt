@@ -1,5 +1,4 @@
 use Rattle.words.proofs.OneBit.{one_shl, bit_le}
-use borrow.Author.Rules.{rules}
 use Rattle.words.proofs.fix_zero.Goals as goal
 
 pub overflow_sub-result : goal.overflow_sub-result

@@ -1,5 +1,4 @@
 use borrow.Author.Tests.{eq-eqb, ne_eqb}
-use borrow.Author.Rules.{rules}
 use Rattle.words.proofs.is_bounded.Goals as goal
 
 pub returns-then-lo-hi : goal.returns-then-lo-hi

@@ -1,6 +1,5 @@
 use native.Mathlib.Omega.{arith}
 use Rattle.words.proofs.Single.{mask_shr}
-use borrow.Author.Rules.{rules}
 use Rattle.words.proofs.mask.Goals as goal
 
 pub returns : goal.returns

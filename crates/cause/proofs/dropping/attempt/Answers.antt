@@ -1,5 +1,4 @@
 use Rattle.cause.proofs.Trying.{trial_asked, trial_dropped, trial_gave_up, trial_kept, list_room}
-use borrow.Author.Rules.{rules}
 use Rattle.cause.proofs.dropping.attempt.Goals as goal
 
 pub search_problem-requires : goal.search_problem-requires

@@ -2,7 +2,7 @@ use mathlib.Core.Path.{◌≡◌, ◌∙◌}
 use Prim.Native.Nat.{suc, ◌-◌}
 use native.Mathlib.Omega.{arith}
 use borrow.Author.Tests.{not-true, not-false}
-use Rattle.cause.proofs.Trimming.{Going, going_start, going_trying, sum_small, going_step, going_gave_up, going_end}
+use Rattle.cause.proofs.Trimming.{going_start, going_trying, sum_small, going_step, going_gave_up, going_end}
 use Rattle.cause.proofs.dropping.trim.Goals as goal
 
 pub loop-n-init : goal.loop-n-init

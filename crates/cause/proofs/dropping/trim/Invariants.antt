@@ -1,8 +1,4 @@
-use mathlib.Core.Path.{◌≡◌, ◌∙◌}
-use Prim.Native.Nat.{suc, ◌-◌}
-use native.Mathlib.Omega.{arith}
-use borrow.Author.Tests.{not-true, not-false}
-use Rattle.cause.proofs.Trimming.{Going, going_start, going_trying, sum_small, going_step, going_gave_up, going_end}
+use Rattle.cause.proofs.Trimming.{Going}
 use Rattle.cause.proofs.dropping.trim.Given as goal
 
 abbrev pub invariant-loop-n : goal.invariant-loop-n

@@ -1,8 +1,5 @@
-use mathlib.Core.Path.{◌≡◌}
 use Prim.Native.Nat.{◌≤◌, ◌-◌}
-use native.Mathlib.Omega.{arith}
 use Rattle.cause.specs.Listing.{Held}
-use Rattle.cause.proofs.Shifting.{held_start, held_turn}
 use Rattle.cause.proofs.list.give.Given as goal
 
 abbrev pub invariant-loop-j : goal.invariant-loop-j

@@ -1,7 +1,7 @@
 use mathlib.Core.Path.{◌≡◌}
-use Prim.Native.Nat.{◌+◌, ◌≤◌, ◌-◌}
+use Prim.Native.Nat.{◌+◌, ◌-◌}
 use native.Mathlib.Omega.{arith}
-use Rattle.cause.proofs.Shifting.{Rising, rising_start, rising_step, rising_end}
+use Rattle.cause.proofs.Shifting.{rising_start, rising_step, rising_end}
 use Rattle.cause.proofs.list.make_room.Goals as goal
 
 pub loop-j-init : goal.loop-j-init

@@ -1,7 +1,5 @@
-use mathlib.Core.Path.{◌≡◌}
-use Prim.Native.Nat.{◌+◌, ◌≤◌, ◌-◌}
-use native.Mathlib.Omega.{arith}
-use Rattle.cause.proofs.Shifting.{Rising, rising_start, rising_step, rising_end}
+use Prim.Native.Nat.{◌≤◌}
+use Rattle.cause.proofs.Shifting.{Rising}
 use Rattle.cause.proofs.list.make_room.Given as goal
 
 abbrev pub invariant-loop-j : goal.invariant-loop-j

@@ -1,7 +1,6 @@
 use mathlib.Core.Path.{◌≡◌}
-use Prim.Native.Nat.{◌≤◌, ◌-◌}
 use native.Mathlib.Omega.{arith}
-use Rattle.cause.proofs.Shifting.{Sinking, sinking_start, sinking_step}
+use Rattle.cause.proofs.Shifting.{sinking_start, sinking_step}
 use Rattle.cause.proofs.list.remove.Goals as goal
 
 pub loop-j-init : goal.loop-j-init

@@ -1,7 +1,5 @@
-use mathlib.Core.Path.{◌≡◌}
 use Prim.Native.Nat.{◌≤◌, ◌-◌}
-use native.Mathlib.Omega.{arith}
-use Rattle.cause.proofs.Shifting.{Sinking, sinking_start, sinking_step}
+use Rattle.cause.proofs.Shifting.{Sinking}
 use Rattle.cause.proofs.list.remove.Given as goal
 
 abbrev pub invariant-loop-j : goal.invariant-loop-j

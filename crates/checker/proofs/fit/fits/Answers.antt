@@ -1,6 +1,5 @@
 use Rattle.problem.specs.Rows.{class_of}
 use Rattle.checker.proofs.RowNumbers.{last_class}
-use borrow.Author.Rules.{rules}
 use Rattle.checker.proofs.fit.fits.Goals as goal
 
 pub returns-in-0 : goal.returns-in-0

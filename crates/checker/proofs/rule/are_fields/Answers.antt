@@ -1,5 +1,4 @@
 use Rattle.checker.specs.Tests.{are_fields}
-use borrow.Author.Rules.{rules}
 use Rattle.checker.proofs.rule.are_fields.Goals as goal
 
 pub returns : goal.returns

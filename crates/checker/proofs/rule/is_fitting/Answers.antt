@@ -1,6 +1,5 @@
 use mathlib.Core.Path.{◌∙◌}
 use Rattle.checker.proofs.RowNumbers.{fitting}
-use borrow.Author.Rules.{rules}
 use Rattle.checker.proofs.rule.is_fitting.Goals as goal
 
 pub returns : goal.returns

@@ -1,8 +1,5 @@
-use mathlib.Core.Path.{◌≡◌, sym, ◌∙◌}
-use Prim.Native.Nat.{◌≤◌, ◌-◌}
+use mathlib.Core.Path.{sym, ◌∙◌}
 use borrow.Author.Rules.{rules}
-use Rattle.checker.specs.declared.Checked.TheVariants.{Ok}
-use Rattle.checker.specs.Refusal.{first_of, rule_refusal}
 use Rattle.checker.proofs.Firsts.{run_none, run_more, run_stop, run_end}
 use Rattle.checker.proofs.rule.rules_refusal.Goals as goal
 

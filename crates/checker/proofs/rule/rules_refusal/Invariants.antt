@@ -1,9 +1,7 @@
-use mathlib.Core.Path.{◌≡◌, sym, ◌∙◌}
+use mathlib.Core.Path.{◌≡◌}
 use Prim.Native.Nat.{◌≤◌, ◌-◌}
-use borrow.Author.Rules.{rules}
 use Rattle.checker.specs.declared.Checked.TheVariants.{Ok}
 use Rattle.checker.specs.Refusal.{first_of, rule_refusal}
-use Rattle.checker.proofs.Firsts.{run_none, run_more, run_stop, run_end}
 use Rattle.checker.proofs.rule.rules_refusal.Given as goal
 
 abbrev pub invariant-loop-n : goal.invariant-loop-n

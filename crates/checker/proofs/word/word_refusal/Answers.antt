@@ -3,7 +3,6 @@ use lib.Dec.{T}
 use borrow.Author.Tests.{not-true, not-false}
 use Rattle.checker.proofs.TestsMet.{width_met}
 use Rattle.checker.proofs.Answers.{refused_width, refused_table, ok_word}
-use borrow.Author.Rules.{rules}
 use Rattle.checker.proofs.word.word_refusal.Goals as goal
 
 pub returns-then-not-one_to : goal.returns-then-not-one_to

@@ -1,4 +1,4 @@
-use Rattle.std.proofs.Common.{ℕ, ◌+◌, ◌<◌, length, ap, arith}
+use Rattle.std.proofs.Common.{ℕ, ◌<◌, length, ap, arith}
 use Rattle.decimal.proofs.Decimals.{decimal_one, decimal_longer}
 use Rattle.decimal.proofs.Puts.{digit_put, digit_behind}
 use Rattle.decimal.proofs.number.+put.Goals as goal

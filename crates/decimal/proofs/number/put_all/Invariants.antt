@@ -1,10 +1,6 @@
-use mathlib.Core.Path.{refl, ◌∙◌, ◌≡◌}
+use mathlib.Core.Path.{◌≡◌}
 use Prim.Native.Nat.{◌+◌, ◌*◌, ◌≤◌, ◌-◌}
-use native.Mathlib.Omega.{arith}
-use borrow.Author.Rules.{rules}
-use lib.ListN.{length, get_or, take, length-set}
-use Rattle.decimal.proofs.Decimals.{decimal_length}
-use Rattle.decimal.proofs.Puts.{numbers_start, number_turn, numbers_end}
+use lib.ListN.{length, take}
 use Rattle.decimal.specs.Text.{spaced}
 use Rattle.decimal.specs.Putting.{Appended}
 use Rattle.decimal.proofs.number.put_all.Given as goal

@@ -1,8 +1,5 @@
-use Prim.Native.Nat.{◌-◌}
 use native.Mathlib.Omega.{arith}
-use borrow.Author.Rules.{rules}
-use lib.ListN.{length}
-use Rattle.decimal.proofs.Readings.{Begun, digit_first, digit_next, number_here, number_end, none_past, none_first, none_more}
+use Rattle.decimal.proofs.Readings.{digit_first, digit_next, number_here, number_end, none_past, none_first, none_more}
 use Rattle.decimal.proofs.number.read.Goals as goal
 
 pub returns-then-s-at : goal.returns-then-s-at

@@ -1,4 +1,4 @@
-use Rattle.std.proofs.Common.{◌≡◌, ℕ, Bool, true, false, ◌&&◌, ◌∙◌, rules}
+use Rattle.std.proofs.Common.{◌≡◌, ℕ, Bool, true, false, ◌&&◌, ◌∙◌}
 use Rattle.rules.specs.Kinds.{R, kind_of}
 use Rattle.rules.specs.Rows.{uses}
 use Rattle.problem.specs.declared.Bounds.{Bounds}

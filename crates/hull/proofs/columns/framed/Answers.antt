@@ -1,4 +1,3 @@
-use Rattle.std.proofs.Common.{rules}
 use Rattle.hull.specs.ByColumns.{framed_of}
 use Rattle.hull.proofs.columns.framed.Goals as goal
 

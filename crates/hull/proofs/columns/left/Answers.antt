@@ -1,4 +1,3 @@
-use Rattle.std.proofs.Common.{rules}
 use Rattle.hull.specs.ByColumns.{left_of}
 use Rattle.hull.proofs.columns.left.Goals as goal
 

@@ -1,4 +1,3 @@
-use Rattle.std.proofs.Common.{rules}
 use Rattle.hull.specs.ByColumns.{swept_of}
 use Rattle.hull.proofs.columns.swept.Goals as goal
 

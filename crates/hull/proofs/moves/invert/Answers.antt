@@ -1,4 +1,3 @@
-use Rattle.std.proofs.Common.{rules}
 use Rattle.hull.specs.Moves.{not_of}
 use Rattle.hull.proofs.moves.invert.Goals as goal
 

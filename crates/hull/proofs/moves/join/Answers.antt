@@ -1,4 +1,3 @@
-use Rattle.std.proofs.Common.{rules}
 use Rattle.hull.specs.Moves.{join_of}
 use Rattle.hull.proofs.moves.join.Goals as goal
 

@@ -1,4 +1,3 @@
-use Rattle.std.proofs.Common.{rules}
 use Rattle.hull.specs.Moves.{shl_of}
 use Rattle.hull.proofs.moves.shl.Goals as goal
 

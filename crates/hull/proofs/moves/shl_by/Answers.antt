@@ -1,4 +1,4 @@
-use Rattle.std.proofs.Common.{sym, rules}
+use Rattle.std.proofs.Common.{sym}
 use Rattle.hull.proofs.Parts.{shl_all}
 use Rattle.hull.proofs.moves.shl_by.Goals as goal
 

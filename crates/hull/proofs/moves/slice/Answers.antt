@@ -1,4 +1,3 @@
-use Rattle.std.proofs.Common.{rules}
 use Rattle.hull.specs.Moves.{slice_of}
 use Rattle.hull.proofs.moves.slice.Goals as goal
 

@@ -1,4 +1,4 @@
-use Rattle.std.proofs.Common.{rules, eq-eqb, ne_eqb}
+use Rattle.std.proofs.Common.{eq-eqb, ne_eqb}
 use Rattle.hull.specs.ByColumns.{value_of}
 use Rattle.hull.proofs.settle.value.Goals as goal
 

@@ -1,5 +1,4 @@
 use Rattle.hull.specs.Columns.{allowed_in}
-use Rattle.std.proofs.Common.{rules}
 use Rattle.hull.proofs.sweep.allowed.Goals as goal
 
 pub returns : goal.returns

@@ -1,5 +1,4 @@
 use Rattle.hull.specs.Columns.{back_of}
-use Rattle.std.proofs.Common.{rules}
 use Rattle.hull.proofs.sweep.back.Goals as goal
 
 pub returns : goal.returns

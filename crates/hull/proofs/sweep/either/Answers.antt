@@ -1,5 +1,4 @@
 use Rattle.hull.specs.Columns.{either_of}
-use Rattle.std.proofs.Common.{rules}
 use Rattle.hull.proofs.sweep.either.Goals as goal
 
 pub returns : goal.returns

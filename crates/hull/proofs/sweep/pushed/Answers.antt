@@ -1,4 +1,3 @@
-use Rattle.std.proofs.Common.{rules}
 use Rattle.hull.proofs.sweep.pushed.Goals as goal
 
 pub returns-then-b : goal.returns-then-b

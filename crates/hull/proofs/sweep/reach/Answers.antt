@@ -1,4 +1,3 @@
-use Rattle.std.proofs.Common.{rules}
 use Rattle.hull.proofs.sweep.reach.Goals as goal
 
 pub returns : goal.returns

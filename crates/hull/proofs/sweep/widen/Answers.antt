@@ -1,5 +1,4 @@
 use Rattle.hull.specs.Columns.{widened}
-use Rattle.std.proofs.Common.{rules}
 use Rattle.hull.proofs.sweep.widen.Goals as goal
 
 pub returns : goal.returns

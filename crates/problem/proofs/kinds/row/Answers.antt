@@ -5,7 +5,6 @@ use Prim.Native.Nat.{ℕ, suc, ◌<◌, ◌-◌}
 use native.Mathlib.Omega.{arith}
 use lib.Dec.{eqb, eqb→eq}
 use lib.ListN.{length, get_or}
-use borrow.Author.Rules.{rules}
 use Rattle.rules.specs.Kinds.{kind_of}
 use Rattle.rules.specs.ProperProblem.{KindNumber}
 use Rattle.lists.proofs.Bools.{both}

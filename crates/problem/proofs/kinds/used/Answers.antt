@@ -1,4 +1,3 @@
-use borrow.Author.Rules.{rules}
 use Rattle.rules.specs.Kinds.{kind_of}
 use Rattle.problem.proofs.RowNumbers.{entry_used}
 use Rattle.problem.proofs.kinds.used.Goals as goal

@@ -1,6 +1,5 @@
 use Rattle.search.specs.Guessing.{zero_fixed}
 use Rattle.search.proofs.Guesses.{some_open, top_low, top_on}
-use borrow.Author.Rules.{rules}
 use Rattle.search.proofs.guess.fix_first.Goals as goal
 
 pub highest_open-j-requires : goal.highest_open-j-requires

@@ -1,6 +1,5 @@
 use Rattle.search.specs.Guessing.{one_fixed}
 use Rattle.search.proofs.Guesses.{some_open, top_low, top_off}
-use borrow.Author.Rules.{rules}
 use Rattle.search.proofs.guess.fix_second.Goals as goal
 
 pub highest_open-j-requires : goal.highest_open-j-requires

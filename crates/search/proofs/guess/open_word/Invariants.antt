@@ -1,11 +1,6 @@
-use mathlib.Core.Path.{◌≡◌, sym, ◌∙◌}
-use mathlib.Core.List.{List}
+use mathlib.Core.Path.{◌≡◌}
 use Prim.Native.Nat.{ℕ, ◌+◌, ◌≤◌, ◌<◌, ◌-◌}
-use native.Mathlib.Omega.{arith}
-use native.Mathlib.Decide.{ℕ_discrete}
 use Rattle.lists.specs.Lists.{at}
-use Rattle.words.proofs.Falls.{none_open, open_none}
-use borrow.Author.Rules.{rules}
 use Rattle.search.proofs.guess.open_word.Given as goal
 
 abbrev pub invariant-loop-i : goal.invariant-loop-i

@@ -1,7 +1,6 @@
 use mathlib.Core.Logic.{inr}
 use native.Mathlib.Omega.{arith}
 use Rattle.search.proofs.Guesses.{moved_fixable, second_left}
-use borrow.Author.Rules.{rules}
 use Rattle.search.proofs.guess.second_value.Goals as goal
 
 pub copy_table-requires : goal.copy_table-requires

@@ -1,7 +1,6 @@
 use native.Mathlib.Omega.{arith}
-use Prim.Native.Nat.{◌≤◌, ◌-◌}
-use lib.ListN.{length, length-set}
-use Rattle.tighten.proofs.Buffers.{Clearing, clearing_start, clearing_turn, clearing_end}
+use lib.ListN.{length-set}
+use Rattle.tighten.proofs.Buffers.{clearing_start, clearing_turn, clearing_end}
 use Rattle.tighten.proofs.buffer.clear.Goals as goal
 
 pub loop-i-init : goal.loop-i-init

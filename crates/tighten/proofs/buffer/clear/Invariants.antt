@@ -1,7 +1,6 @@
-use native.Mathlib.Omega.{arith}
 use Prim.Native.Nat.{◌≤◌, ◌-◌}
-use lib.ListN.{length, length-set}
-use Rattle.tighten.proofs.Buffers.{Clearing, clearing_start, clearing_turn, clearing_end}
+use lib.ListN.{length}
+use Rattle.tighten.proofs.Buffers.{Clearing}
 use Rattle.tighten.proofs.buffer.clear.Given as goal
 
 abbrev pub invariant-loop-i : goal.invariant-loop-i

@@ -1,8 +1,5 @@
-use mathlib.Core.Path.{◌≡◌}
-use native.Mathlib.Omega.{arith}
 use Prim.Native.Nat.{◌≤◌, ◌-◌}
 use Rattle.tighten.specs.Memory.{Numbered}
-use Rattle.tighten.proofs.Buffers.{numbered_start, numbered_turn}
 use Rattle.tighten.proofs.buffer.list_all.Given as goal
 
 abbrev pub invariant-loop-j : goal.invariant-loop-j

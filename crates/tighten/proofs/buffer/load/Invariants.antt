@@ -1,9 +1,5 @@
-use native.Mathlib.Omega.{arith}
-use mathlib.Core.Path.{◌≡◌, refl}
 use Prim.Native.Nat.{◌≤◌, ◌-◌}
-use lib.ListN.{length-set}
 use Rattle.tighten.specs.Memory.{Loaded}
-use Rattle.tighten.proofs.Buffers.{loaded_start, loaded_turn}
 use Rattle.tighten.proofs.buffer.load.Given as goal
 
 abbrev pub invariant-loop-i : goal.invariant-loop-i

@@ -1,6 +1,5 @@
 use native.Mathlib.Omega.{arith}
 use mathlib.Core.Path.{◌≡◌, refl, ap, ◌∙◌}
-use Prim.Native.Nat.{◌≤◌, ◌-◌}
 use lib.ListN.{length, length-set}
 use Rattle.tighten.specs.Memory.{put_bounds}
 use Rattle.tighten.proofs.Buffers.{put_length, put_turn}

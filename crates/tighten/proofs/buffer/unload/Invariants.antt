@@ -1,9 +1,6 @@
-use native.Mathlib.Omega.{arith}
-use mathlib.Core.Path.{◌≡◌, refl, ap, ◌∙◌}
+use mathlib.Core.Path.{◌≡◌}
 use Prim.Native.Nat.{◌≤◌, ◌-◌}
-use lib.ListN.{length, length-set}
 use Rattle.tighten.specs.Memory.{put_bounds}
-use Rattle.tighten.proofs.Buffers.{put_length, put_turn}
 use Rattle.tighten.proofs.buffer.unload.Given as goal
 
 abbrev pub invariant-loop-i : goal.invariant-loop-i

@@ -1,5 +1,4 @@
 use Rattle.tighten.proofs.Ready.{small, asked, applied}
-use borrow.Author.Rules.{rules}
 use Rattle.tighten.proofs.rule.apply.Goals as goal
 
 pub widths_of-w-requires : goal.widths_of-w-requires

@@ -1,7 +1,6 @@
 use native.Mathlib.Omega.{arith}
 use lib.ListN.{length-set}
 use Rattle.tighten.specs.Meeting.{met_by}
-use borrow.Author.Rules.{rules}
 use Rattle.tighten.proofs.rule.meet.Goals as goal
 
 pub bounds-work-k-then-m-lo : goal.bounds-work-k-then-m-lo

@@ -1,5 +1,4 @@
 use Rattle.tighten.specs.Meeting.{met_all}
-use borrow.Author.Rules.{rules}
 use Rattle.tighten.proofs.rule.meet_all.Goals as goal
 
 pub returns : goal.returns
