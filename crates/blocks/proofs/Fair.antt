@@ -1,5 +1,5 @@
 -- Editions whose records fit their blocks and whose files may have as many blocks as the totals ask for. All laws are about such editions; edition 1 is one.
-use Rattle.std.proofs.Common.{◌≡◌, ℕ, zero, suc, ◌+◌, ◌*◌, ◌<◌, ◌≤◌, length, refl, mul-le-mul_right, mul-le-mul_left, arith, length-append}
+use Rattle.std.proofs.Common.{◌≡◌, ℕ, zero, suc, ◌*◌, ◌<◌, ◌≤◌, length, refl, mul-le-mul_right, mul-le-mul_left, arith, length-append}
 use Rattle.blocks.specs.Fair.{FormFits, Fair}
 use Rattle.lists.specs.Lists.{at, zeros}
 use Rattle.rules.specs.Tight.{Rule}

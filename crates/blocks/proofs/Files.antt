@@ -1,6 +1,6 @@
 -- A proper file is just the file of the records that stand in it, whatever the records are.
 use Rattle.std.proofs.Common.{◌≡◌, ℕ, ◌+◌, ◌*◌, ◌<◌, List, ◌++◌, length, sym, refl, ◌∙◌, add-zero, zero-add, arith, length-append}
-use Rattle.lists.specs.Lists.{at, part}
+use Rattle.lists.specs.Lists.{part}
 use Rattle.blocks.specs.Bytes.{le}
 use Rattle.blocks.specs.Edition.{Edition}
 use Rattle.blocks.specs.File.{block_at, ProperFile}

@@ -1,5 +1,5 @@
 -- A problem that passes its check fits a file.
-use Rattle.std.proofs.Common.{◌≡◌, ℕ, ◌*◌, ◌^◌, ◌<◌, List, arith}
+use Rattle.std.proofs.Common.{◌≡◌, ℕ, ◌*◌, ◌<◌, List, arith}
 use native.Mathlib.Decide.{dec_lt}
 use lib.ListN.{get_or-eq_default}
 use Rattle.checker.specs.declared.Checked.TheVariants.{Ok}

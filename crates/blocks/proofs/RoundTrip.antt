@@ -1,5 +1,5 @@
 -- Writing then reading gives the same problem; a file that reads is written back byte by byte; two files that read as one problem are equal.
-use Rattle.std.proofs.Common.{◌≡◌, ℕ, ◌+◌, ◌*◌, ◌≤◌, List, length, take, sym, refl, ap, ◌∙◌, subst, arith}
+use Rattle.std.proofs.Common.{◌≡◌, ℕ, ◌*◌, ◌≤◌, List, length, take, sym, refl, ap, ◌∙◌, subst, arith}
 use Rattle.lists.proofs.Puts.{put_take}
 use Rattle.checker.specs.declared.Checked.{Checked}
 use Rattle.problem.specs.Lent.{stride, fields, word_count, rule_count}

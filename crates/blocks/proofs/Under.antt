@@ -1,5 +1,5 @@
 -- A block's bytes are bytes: each is below 256.
-use Rattle.std.proofs.Common.{◌≡◌, ℕ, zero, suc, ◌+◌, ◌-◌, ◌/◌, ◌%◌, ◌<◌, List, [], ◌∷◌, ◌++◌, length, set, arith}
+use Rattle.std.proofs.Common.{ℕ, zero, suc, ◌-◌, ◌/◌, ◌%◌, ◌<◌, List, length, set, arith}
 use Rattle.lists.proofs.Unders.{under_none, under_cons, under_append, under_zeros}
 use Rattle.lists.specs.Lists.{zeros, Under}
 use Rattle.lists.proofs.Sets.{set_all}

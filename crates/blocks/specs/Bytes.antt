@@ -1,5 +1,5 @@
 -- To be believed: little-endian numbers, as bytes.
-use Rattle.std.specs.Prelude.{ℕ, zero, suc, ◌+◌, ◌*◌, ◌/◌, ◌%◌, ◌<◌, List, [], ◌∷◌, ◌++◌}
+use Rattle.std.specs.Prelude.{ℕ, zero, suc, ◌+◌, ◌*◌, ◌/◌, ◌%◌, List, [], ◌∷◌}
 
 -- the k lowest bytes of x, the lowest first
 unfoldable pub le : ℕ → ℕ → List ℕ

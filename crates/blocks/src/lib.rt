@@ -1,5 +1,6 @@
 // Block files: what reading and writing answer, and the sum of a block.
 #![tactic(auto)]
+
 ghost use Rattle.std.specs.Prelude.{◌≡◌, ◌+◌, ◌*◌, ◌%◌, ◌<◌, length};
 ghost use Rattle.blocks.specs.Block.{sixteen, sum};
 
