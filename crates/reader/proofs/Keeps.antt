@@ -8,7 +8,7 @@ use Rattle.blocks.specs.declared.Problem.{Problem}
 use Rattle.blocks.specs.declared.Reading.{Reading}
 use Rattle.lists.specs.Lists.{put}
 use Rattle.blocks.specs.Edition.{edition1}
-use Rattle.blocks.specs.File.{ProperFile, Whole}
+use Rattle.blocks.specs.File.{ProperFile}
 use Rattle.blocks.specs.Decode.{words_in, rules_in}
 use Rattle.blocks.specs.Promise.{Room, problem_of, Reads}
 use Rattle.blocks.proofs.WriteBack.{count_words, count_rules, proper_written}

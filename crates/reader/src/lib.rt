@@ -1,5 +1,6 @@
 // Reading a block file: its length, block by block its sum and its layout, then the problem in it. Nothing lent is written unless the answer is OK.
 #![tactic(auto)]
+
 mod block;
 mod machine;
 mod store;

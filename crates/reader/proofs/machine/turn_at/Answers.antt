@@ -1,0 +1,43 @@
+use mathlib.Core.Path.{◌≡◌, subst}
+use mathlib.Core.List.{List}
+use Prim.Native.Nat.{ℕ, ◌+◌, ◌*◌, ◌%◌, ◌-◌}
+use lib.ListN.{take, drop}
+use borrow.Author.Rules.{rules}
+use Rattle.blocks.specs.Block.{sum, Sound}
+use Rattle.blocks.specs.Edition.{edition1}
+use Rattle.blocks.specs.File.{block_at}
+use Rattle.blocks.proofs.Fair.{fair1}
+use Rattle.blocks.proofs.Shape.{run_shaped}
+use Rattle.reader.specs.Scans.{BlockStep, Stands}
+use Rattle.reader.proofs.Turns.{cut, stepped_there, sum_right, sum_wrong, of_going, turn_check, turn_ended, turn_fault, turn_go, turn_done}
+use Rattle.reader.proofs.machine.turn_at.Goals as goal
+
+-- the sum was right
+right : (f : List ℕ) (i : ℕ) {s : ℕ} → s ≡ sum (take (512 * i + 512 - 512 * i) (drop (512 * i) f)) % 65536 → s ≡ 65535 → Sound (block_at f i)
+right f i e h = subst Sound (cut f i) (sum_right e h)
+
+pub returns-then-sum_of : goal.returns-then-sum_of
+returns-then-sum_of c =
+    turn_check (record { under = record { each = λ j. (c.type_inv.file j).fits }; room = c.requires.0 }) c.requires.1
+    (subst (λ b. ¬ Sound b) (cut _ _) (sum_wrong c.sum_of.ensures c.if-sum_of.true))
+
+pub returns-in_default : goal.returns-in_default
+returns-in_default c =
+    turn_ended (record { under = record { each = λ j. (c.type_inv.file j).fits }; room = c.requires.0 }) (subst (Stands _ _) c.in_default.is c.requires.1) (right _ _ c.sum_of.ensures c.if-sum_of.false)
+
+pub step_on-s-requires : goal.step_on-s-requires
+step_on-s-requires c =
+    let r = run_shaped edition1 fair1 _ (of_going (subst (Stands _ _) c.in-Going.is c.requires.1)) in
+    (search rules, r.few, r.many, sum_right c.sum_of.ensures c.if-sum_of.false)
+
+pub returns-in-Go : goal.returns-in-Go
+returns-in-Go c =
+    turn_go (record { under = record { each = λ j. (c.type_inv.file j).fits }; room = c.requires.0 }) (subst (Stands _ _) c.in-Going.is c.requires.1) (subst (BlockStep _ _ _ _) c.in-Go.is (stepped_there _ _ c.step_on-s.ensures))
+
+pub returns-in-Done : goal.returns-in-Done
+returns-in-Done c =
+    turn_done (record { under = record { each = λ j. (c.type_inv.file j).fits }; room = c.requires.0 }) (subst (Stands _ _) c.in-Going.is c.requires.1) (subst (BlockStep _ _ _ _) c.in-Done.is (stepped_there _ _ c.step_on-s.ensures))
+
+pub returns-in-Fault : goal.returns-in-Fault
+returns-in-Fault c =
+    turn_fault (record { under = record { each = λ j. (c.type_inv.file j).fits }; room = c.requires.0 }) (subst (Stands _ _) c.in-Going.is c.requires.1) (right _ _ c.sum_of.ensures c.if-sum_of.false) (subst (BlockStep _ _ _ _) c.in-Fault.is (stepped_there _ _ c.step_on-s.ensures))
