@@ -1,5 +1,6 @@
 // Writing a block file: the room for it, the check of the problem, then block by block. Nothing lent is written unless the answer is OK.
 #![tactic(auto)]
+
 mod block;
 mod bytes;
 

@@ -1,0 +1,7 @@
+use Rattle.blocks.specs.Bytes.{le}
+use Rattle.blocks.specs.Written.{headed}
+use Rattle.writer.proofs.bytes.put_head.Goals as goal
+
+pub returns : goal.returns
+unfolding headed le
+returns c = c.put_bytes.ensures
