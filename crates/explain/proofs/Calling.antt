@@ -4,7 +4,6 @@ use mathlib.Core.List.{List, []}
 use Prim.Native.Nat.{ℕ, ◌≤◌, ◌<◌}
 use native.Mathlib.Omega.{arith}
 use lib.ListN.{length}
-use Rattle.lists.specs.Lists.{at}
 use Rattle.checker.specs.declared.Checked.TheVariants.{Ok, Refused}
 use Rattle.problem.specs.Lent.{rule_count}
 use Rattle.checker.specs.Refusal.{refusal}

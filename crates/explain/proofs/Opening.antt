@@ -46,17 +46,17 @@ changed t S l h = record { rl = t.rl; rh = t.rh; al = t.al; ah = t.ah; bl = t.bl
 module _ (t : Bounds) (l h : ℕ) where
   low : (p q : Place) → lo_of (changed t p l h) q ≡ placed p l (lo_of t) q
   unfolding placed
-  low R q = elim q [ R ↦ refl | A ↦ refl | B ↦ refl | S ↦ refl ]
-  low A q = elim q [ R ↦ refl | A ↦ refl | B ↦ refl | S ↦ refl ]
-  low B q = elim q [ R ↦ refl | A ↦ refl | B ↦ refl | S ↦ refl ]
-  low S q = elim q [ R ↦ refl | A ↦ refl | B ↦ refl | S ↦ refl ]
+  low R q = elim q as (λ k. lo_of (changed t R l h) k ≡ placed R l (lo_of t) k) [ R ↦ refl | A ↦ refl | B ↦ refl | S ↦ refl ]
+  low A q = elim q as (λ k. lo_of (changed t A l h) k ≡ placed A l (lo_of t) k) [ R ↦ refl | A ↦ refl | B ↦ refl | S ↦ refl ]
+  low B q = elim q as (λ k. lo_of (changed t B l h) k ≡ placed B l (lo_of t) k) [ R ↦ refl | A ↦ refl | B ↦ refl | S ↦ refl ]
+  low S q = elim q as (λ k. lo_of (changed t S l h) k ≡ placed S l (lo_of t) k) [ R ↦ refl | A ↦ refl | B ↦ refl | S ↦ refl ]
 
   high : (p q : Place) → hi_of (changed t p l h) q ≡ placed p h (hi_of t) q
   unfolding placed
-  high R q = elim q [ R ↦ refl | A ↦ refl | B ↦ refl | S ↦ refl ]
-  high A q = elim q [ R ↦ refl | A ↦ refl | B ↦ refl | S ↦ refl ]
-  high B q = elim q [ R ↦ refl | A ↦ refl | B ↦ refl | S ↦ refl ]
-  high S q = elim q [ R ↦ refl | A ↦ refl | B ↦ refl | S ↦ refl ]
+  high R q = elim q as (λ k. hi_of (changed t R l h) k ≡ placed R h (hi_of t) k) [ R ↦ refl | A ↦ refl | B ↦ refl | S ↦ refl ]
+  high A q = elim q as (λ k. hi_of (changed t A l h) k ≡ placed A h (hi_of t) k) [ R ↦ refl | A ↦ refl | B ↦ refl | S ↦ refl ]
+  high B q = elim q as (λ k. hi_of (changed t B l h) k ≡ placed B h (hi_of t) k) [ R ↦ refl | A ↦ refl | B ↦ refl | S ↦ refl ]
+  high S q = elim q as (λ k. hi_of (changed t S l h) k ≡ placed S h (hi_of t) k) [ R ↦ refl | A ↦ refl | B ↦ refl | S ↦ refl ]
 
   span_changed : (p : Place) → span_of (changed t p l h) ≡ record { lo = placed p l (lo_of t); hi = placed p h (hi_of t) }
   span_changed p = λ i. record { lo = fun_ext (low p) i; hi = fun_ext (high p) i }

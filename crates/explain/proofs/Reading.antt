@@ -1,7 +1,7 @@
 -- What is read from lent numbers: the question and the bounds are those of the rule's own places over the table as given.
 use mathlib.Core.Path.{◌≡◌, sym, ap, ◌∙◌}
 use mathlib.Core.List.{List}
-use Prim.Native.Nat.{ℕ, ◌+◌, ◌*◌, ◌<◌}
+use Prim.Native.Nat.{ℕ, ◌<◌}
 use native.Mathlib.Omega.{arith}
 use lib.ListN.{length}
 use Rattle.problem.specs.declared.Widths.{Widths}
@@ -9,19 +9,16 @@ use Rattle.problem.specs.declared.Fields.{Fields}
 use Rattle.problem.proofs.Readings.{shape_read, span_read}
 use Rattle.problem.specs.Reading.{fields_at, bounds_at, widths_at}
 use Rattle.checker.specs.Promise.{Taken}
-use Rattle.lists.specs.Lists.{at}
 use Rattle.rules.specs.Fits.{Legal}
 use Rattle.rules.specs.Tight.{rule, shape, span}
 use Rattle.rules.specs.ProperProblem.{KindNumber, ProperRule}
 use Rattle.rules.proofs.ProperRules.{rule_legal}
-use Rattle.checker.specs.declared.Checked.TheVariants.{Refused}
 use Rattle.problem.specs.Lent.{widths_of, table_of, rule_count, rule_at, rules_of}
 use Rattle.lists.proofs.Series.{length_series}
 use Rattle.problem.proofs.Lents.{rule_at_lem}
 use Rattle.problem.specs.declared.Bounds.{Bounds}
 use Rattle.problem.specs.Places.{span_of}
 use Rattle.explain.specs.declared.Question.{Question}
-use Rattle.explain.specs.declared.Said.TheVariants as said
 use Rattle.explain.specs.declared.Explained.{Explained}
 use Rattle.explain.specs.declared.Explained.TheVariants as explained
 use Rattle.explain.specs.Asking.{shape_in, place_in, OpenBit, Asks}

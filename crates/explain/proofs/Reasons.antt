@@ -12,7 +12,7 @@ use Rattle.rules.specs.Meaning.{Shape}
 use Rattle.rules.specs.Fits.{Span}
 use Rattle.rules.specs.Tight.{rule, shape, span}
 use Rattle.rules.proofs.ProperRules.{rule_legal}
-use Rattle.checker.specs.declared.Checked.TheVariants.{Refused, Ok}
+use Rattle.checker.specs.declared.Checked.TheVariants.{Ok}
 use Rattle.problem.specs.Lent.{widths_of, table_of, rules_of}
 use Rattle.lists.proofs.Series.{length_series}
 use Rattle.reason_theory.specs.Says.{Answer, CONFLICT, FORCED, FREE, Says}

@@ -1,6 +1,7 @@
 // One bit at one place of a rule explained, over the table as it was given: what the rule says of the bit, and the fixed bits that are the reason.
 // All work is on the rule's own four places, held by value; the table is read once and never changed.
 #![tactic(auto)]
+
 mod asking;
 mod dropping;
 mod places;
