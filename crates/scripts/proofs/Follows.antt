@@ -8,7 +8,6 @@ use native.Mathlib.Decide.{dec_lt}
 use lib.ListN.{length}
 use Rattle.words.specs.Bits.{bit}
 use Rattle.words.specs.Table.{Table, Open}
-use Rattle.lists.specs.Lists.{at}
 use Rattle.rules.specs.Tight.{Rule, none_rule, RulesIn}
 use Rattle.rules.specs.Inputs.{Computed, Inputs}
 use Rattle.search_theory.proofs.Inputs.{inputs_stay}
