@@ -86,8 +86,10 @@ module _ (w : List ℕ) (x y : ℕ) (lx : x < length w) (ly : y < length w) (e :
   slice_proper = record {
     kind = omega arith;
     fields = record {
-      used = λ p. elim p as (λ q. T (uses (kind_of (relation_rule equals x y).kind) q) → word (relation_rule equals x y) q < length w) [ R ↦ λ u. lx | A ↦ λ u. ly | B ↦ λ u. absurd u | S ↦ λ u. absurd u ];
-      unused = λ p. elim p as (λ q. ¬ T (uses (kind_of (relation_rule equals x y).kind) q) → word (relation_rule equals x y) q ≡ 0) [ R ↦ λ n. absurd (n tt) | A ↦ λ n. absurd (n tt) | B ↦ λ n. refl | S ↦ λ n. refl ];
+      used = λ p. elim p as (λ q. T (uses (kind_of (relation_rule equals x y).kind) q) → word (relation_rule equals x y) q < length w)
+          [ R ↦ λ u. lx | A ↦ λ u. ly | B ↦ λ u. absurd u | S ↦ λ u. absurd u ];
+      unused = λ p. elim p as (λ q. ¬ T (uses (kind_of (relation_rule equals x y).kind) q) → word (relation_rule equals x y) q ≡ 0)
+          [ R ↦ λ n. absurd (n tt) | A ↦ λ n. absurd (n tt) | B ↦ λ n. refl | S ↦ λ n. refl ];
       unused_k = λ n. refl;
     };
     fit = omega arith;
@@ -95,8 +97,10 @@ module _ (w : List ℕ) (x y : ℕ) (lx : x < length w) (ly : y < length w) (e :
 
 relating_fields : (c : Rel) (w : List ℕ) (x y : ℕ) → x < length w → y < length w → Fields (length w) (relating_rule c x y)
 relating_fields c w x y lx ly = record {
-  used = rw (kind_rel c) (λ p. elim p as (λ q. T (uses (rel c) q) → word (relating_rule c x y) q < length w) [ R ↦ λ u. absurd u | A ↦ λ u. lx | B ↦ λ u. ly | S ↦ λ u. absurd u ]);
-  unused = rw (kind_rel c) (λ p. elim p as (λ q. ¬ T (uses (rel c) q) → word (relating_rule c x y) q ≡ 0) [ R ↦ λ n. refl | A ↦ λ n. absurd (n tt) | B ↦ λ n. absurd (n tt) | S ↦ λ n. refl ]);
+  used = rw (kind_rel c) (λ p. elim p as (λ q. T (uses (rel c) q) → word (relating_rule c x y) q < length w)
+      [ R ↦ λ u. absurd u | A ↦ λ u. lx | B ↦ λ u. ly | S ↦ λ u. absurd u ]);
+  unused = rw (kind_rel c) (λ p. elim p as (λ q. ¬ T (uses (rel c) q) → word (relating_rule c x y) q ≡ 0)
+      [ R ↦ λ n. refl | A ↦ λ n. absurd (n tt) | B ↦ λ n. absurd (n tt) | S ↦ λ n. refl ]);
   unused_k = λ n. refl;
 }
 

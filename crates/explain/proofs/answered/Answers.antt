@@ -30,12 +30,15 @@ said_by-x-requires c = c.requires.0.small
 
 pub returns-in-Conflict : goal.returns-in-Conflict
 returns-in-Conflict c =
-    given_conflict c.args.q c.args.t (says c.args.q c.args.t c.said_by-x.ensures (narrow_said c.args.q c.narrow-o.ensures c.requires.0.used)) _ c.reason.ensures c.in-Conflict.is
+    given_conflict c.args.q c.args.t (says c.args.q c.args.t c.said_by-x.ensures (narrow_said c.args.q c.narrow-o.ensures c.requires.0.used)) _ c.reason.ensures
+    c.in-Conflict.is
 
 pub returns-in_default-x : goal.returns-in_default-x
 returns-in_default-x c =
-    given_free c.args.q c.args.t (says c.args.q c.args.t c.said_by-x.ensures (narrow_said c.args.q c.narrow-o.ensures c.requires.0.used)) _ (free_left c.said_by-x.result c.in_default.not-Conflict c.in_default-x.not-Forced)
+    given_free c.args.q c.args.t (says c.args.q c.args.t c.said_by-x.ensures (narrow_said c.args.q c.narrow-o.ensures c.requires.0.used)) _
+    (free_left c.said_by-x.result c.in_default.not-Conflict c.in_default-x.not-Forced)
 
 pub returns : goal.returns
 returns c =
-    given_forced c.args.q c.args.t (rw c.in-Forced.is at (says c.args.q c.args.t c.said_by-x.ensures (narrow_said c.args.q c.narrow-o.ensures c.requires.0.used))) _ c.reason-2.ensures _ refl
+    given_forced c.args.q c.args.t
+    (rw c.in-Forced.is at (says c.args.q c.args.t c.said_by-x.ensures (narrow_said c.args.q c.narrow-o.ensures c.requires.0.used))) _ c.reason-2.ensures _ refl

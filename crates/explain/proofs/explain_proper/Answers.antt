@@ -29,11 +29,15 @@ pub returns-then-rules-rule : goal.returns-then-rules-rule
 returns-then-rules-rule c = rule_refused _ _ _ c.if-rules-rule.true
 
 pub is_open-requires : goal.is_open-requires
-is_open-requires c = (is_kind (read _ c.args.place c.args.bit c.requires c.if-rules-rule.false c.fields_of-x.ensures.0 c.bounds_of-t.ensures c.widths_of.ensures), is_legal (read _ c.args.place c.args.bit c.requires c.if-rules-rule.false c.fields_of-x.ensures.0 c.bounds_of-t.ensures c.widths_of.ensures))
+is_open-requires c = (
+  is_kind (read _ c.args.place c.args.bit c.requires c.if-rules-rule.false c.fields_of-x.ensures.0 c.bounds_of-t.ensures c.widths_of.ensures),
+  is_legal (read _ c.args.place c.args.bit c.requires c.if-rules-rule.false c.fields_of-x.ensures.0 c.bounds_of-t.ensures c.widths_of.ensures),
+)
 
 pub returns-then-not-is_open : goal.returns-then-not-is_open
 returns-then-not-is_open c =
-    open_refused (read _ c.args.place c.args.bit c.requires c.if-rules-rule.false c.fields_of-x.ensures.0 c.bounds_of-t.ensures c.widths_of.ensures) (refuted c.is_open.ensures (not-true _ c.if-not-is_open.true-raw))
+    open_refused (read _ c.args.place c.args.bit c.requires c.if-rules-rule.false c.fields_of-x.ensures.0 c.bounds_of-t.ensures c.widths_of.ensures)
+    (refuted c.is_open.ensures (not-true _ c.if-not-is_open.true-raw))
 
 pub answered-requires : goal.answered-requires
 answered-requires c =
@@ -42,4 +46,5 @@ answered-requires c =
 
 pub returns : goal.returns
 returns c =
-    open_judged (read _ c.args.place c.args.bit c.requires c.if-rules-rule.false c.fields_of-x.ensures.0 c.bounds_of-t.ensures c.widths_of.ensures) (decided c.is_open.ensures (not-false _ c.if-not-is_open.false-raw)) c.answered.ensures
+    open_judged (read _ c.args.place c.args.bit c.requires c.if-rules-rule.false c.fields_of-x.ensures.0 c.bounds_of-t.ensures c.widths_of.ensures)
+    (decided c.is_open.ensures (not-false _ c.if-not-is_open.false-raw)) c.answered.ensures

@@ -21,7 +21,8 @@ returns-then-not-has_room c = no_room _ _ _ _ (sym c.has_room.ensures ∙ not-tr
 
 pub returns-in-Refused : goal.returns-in-Refused
 returns-in-Refused c =
-    Writes.refused (room c.args.limit c.args.words.now c.args.rules.now c.args.file.now (sym c.has_room.ensures ∙ not-false _ c.if-not-has_room.false-raw)) (sym c.check-x.ensures ∙ c.in-Refused.is) refl
+    Writes.refused (room c.args.limit c.args.words.now c.args.rules.now c.args.file.now (sym c.has_room.ensures ∙ not-false _ c.if-not-has_room.false-raw))
+    (sym c.check-x.ensures ∙ c.in-Refused.is) refl
 
 pub write_all-requires : goal.write_all-requires
 write_all-requires c =
@@ -30,4 +31,5 @@ write_all-requires c =
 
 pub returns : goal.returns
 returns c =
-    Writes.ok (room c.args.limit c.args.words.now c.args.rules.now c.args.file.now (sym c.has_room.ensures ∙ not-false _ c.if-not-has_room.false-raw)) (sym c.check-x.ensures ∙ c.in_default.is) c.write_all.ensures.0 c.write_all.ensures.1
+    Writes.ok (room c.args.limit c.args.words.now c.args.rules.now c.args.file.now (sym c.has_room.ensures ∙ not-false _ c.if-not-has_room.false-raw))
+    (sym c.check-x.ensures ∙ c.in_default.is) c.write_all.ensures.0 c.write_all.ensures.1

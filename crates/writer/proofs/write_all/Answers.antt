@@ -37,6 +37,7 @@ returns c =
     let k = b + (length c.args.rules.now / 6 + 62) / 63 in
     let n = length_encode c.args.limit c.args.words.now c.args.rules.now in (
       omega arith,
-      file_put c.args.limit c.args.words.now c.args.rules.now c.args.file.now c.write_words.new.file c.write_rules.new.file c.end_block.new.b b k (512 * k) (512 * k + 512) (long c.args.limit c.args.words.now c.args.rules.now c.requires.1) refl refl refl refl
+      file_put c.args.limit c.args.words.now c.args.rules.now c.args.file.now c.write_words.new.file c.write_rules.new.file c.end_block.new.b b k (512 * k)
+          (512 * k + 512) (long c.args.limit c.args.words.now c.args.rules.now c.requires.1) refl refl refl refl
           c.write_words.ensures c.write_rules.ensures c.end_block.ensures,
     )

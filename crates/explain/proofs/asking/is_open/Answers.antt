@@ -24,7 +24,8 @@ returns-then-width-q c = fails (λ o. omega (arith, o.below, c.if-width-q.true, 
 
 pub bit_of-requires : goal.bit_of-requires
 bit_of-requires c =
-    small _ _ c.width.ensures c.if-width-q.false (c.requires.1.width _ (place_used (kind_of c.args.q.kind) c.if-q-gt3.false c.used.ensures (not-false _ c.if-not-used.false-raw))).high
+    small _ _ c.width.ensures c.if-width-q.false
+    (c.requires.1.width _ (place_used (kind_of c.args.q.kind) c.if-q-gt3.false c.used.ensures (not-false _ c.if-not-used.false-raw))).high
 
 pub returns-then-bit_of-eq1 : goal.returns-then-bit_of-eq1
 returns-then-bit_of-eq1 c =
@@ -32,9 +33,11 @@ returns-then-bit_of-eq1 c =
 
 pub bit_of-requires-2 : goal.bit_of-requires-2
 bit_of-requires-2 c =
-    small _ _ c.width.ensures c.if-width-q.false (c.requires.1.width _ (place_used (kind_of c.args.q.kind) c.if-q-gt3.false c.used.ensures (not-false _ c.if-not-used.false-raw))).high
+    small _ _ c.width.ensures c.if-width-q.false
+    (c.requires.1.width _ (place_used (kind_of c.args.q.kind) c.if-q-gt3.false c.used.ensures (not-false _ c.if-not-used.false-raw))).high
 
 pub returns : goal.returns
 returns c =
-    top_decides _ _ _ _ c.if-q-gt3.false (place_used (kind_of c.args.q.kind) c.if-q-gt3.false c.used.ensures (not-false _ c.if-not-used.false-raw)) (omega (arith, c.if-width-q.false, c.width.ensures))
+    top_decides _ _ _ _ c.if-q-gt3.false (place_used (kind_of c.args.q.kind) c.if-q-gt3.false c.used.ensures (not-false _ c.if-not-used.false-raw))
+    (omega (arith, c.if-width-q.false, c.width.ensures))
     (bit_at _ c.low.ensures c.bit_of.ensures) c.if-bit_of-eq1.false (bit_at _ c.high.ensures c.bit_of-2.ensures)

@@ -4,15 +4,19 @@ use Rattle.explain.proofs.Passing.{open_passed, has_room, wider_asks, bit_droppe
 use Rattle.explain.proofs.dropping.drop_bit.Goals as goal
 
 pub returns-then-bit_of : goal.returns-then-bit_of
-returns-then-bit_of c = open_passed (record { asked = c.requires; low = bit_at _ c.low.ensures c.bit_of.ensures; high = bit_at _ c.high.ensures c.bit_of-2.ensures }) c.if-bit_of.true
+returns-then-bit_of c =
+    open_passed (record { asked = c.requires; low = bit_at _ c.low.ensures c.bit_of.ensures; high = bit_at _ c.high.ensures c.bit_of-2.ensures })
+    c.if-bit_of.true
 
 pub stays-requires : goal.stays-requires
 stays-requires c =
-    wider_asks (record { asked = c.requires; low = bit_at _ c.low.ensures c.bit_of.ensures; high = bit_at _ c.high.ensures c.bit_of-2.ensures }) c.if-bit_of.false c.open_at-u.result c.open_at-u.ensures
+    wider_asks (record { asked = c.requires; low = bit_at _ c.low.ensures c.bit_of.ensures; high = bit_at _ c.high.ensures c.bit_of-2.ensures })
+    c.if-bit_of.false c.open_at-u.result c.open_at-u.ensures
 
 pub returns-then-stays : goal.returns-then-stays
 returns-then-stays c =
-    bit_dropped (record { asked = c.requires; low = bit_at _ c.low.ensures c.bit_of.ensures; high = bit_at _ c.high.ensures c.bit_of-2.ensures }) c.if-bit_of.false c.open_at-u.result c.open_at-u.ensures (decided c.stays.ensures c.if-stays.true)
+    bit_dropped (record { asked = c.requires; low = bit_at _ c.low.ensures c.bit_of.ensures; high = bit_at _ c.high.ensures c.bit_of-2.ensures })
+    c.if-bit_of.false c.open_at-u.result c.open_at-u.ensures (decided c.stays.ensures c.if-stays.true)
 
 pub bounds-list-n : goal.bounds-list-n
 bounds-list-n c =
@@ -20,4 +24,5 @@ bounds-list-n c =
 
 pub returns : goal.returns
 returns c =
-    bit_kept (record { asked = c.requires; low = bit_at _ c.low.ensures c.bit_of.ensures; high = bit_at _ c.high.ensures c.bit_of-2.ensures }) c.if-bit_of.false c.open_at-u.result c.open_at-u.ensures (refuted c.stays.ensures c.if-stays.false)
+    bit_kept (record { asked = c.requires; low = bit_at _ c.low.ensures c.bit_of.ensures; high = bit_at _ c.high.ensures c.bit_of-2.ensures }) c.if-bit_of.false
+    c.open_at-u.result c.open_at-u.ensures (refuted c.stays.ensures c.if-stays.false)

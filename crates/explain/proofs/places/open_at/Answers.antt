@@ -19,4 +19,5 @@ returns-then-p-eq2 c = changed_opened c.args.t c.args.p c.args.b B (ap place_of 
 
 pub returns : goal.returns
 returns c =
-    changed_opened c.args.t c.args.p c.args.b S (last_place c.args.p c.if-p-eq0.false c.if-p-eq1.false c.if-p-eq2.false) c.low.ensures c.clear-l.ensures c.high.ensures c.fill-h.ensures
+    changed_opened c.args.t c.args.p c.args.b S (last_place c.args.p c.if-p-eq0.false c.if-p-eq1.false c.if-p-eq2.false) c.low.ensures c.clear-l.ensures
+    c.high.ensures c.fill-h.ensures

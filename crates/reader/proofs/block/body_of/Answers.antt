@@ -25,7 +25,8 @@ returns-then-from_le-i c = no_number c.number_at-from_le.ensures c.if-from_le-i.
 
 pub returns-then-has_records : goal.returns-then-has_records
 returns-then-has_records c =
-    is_words (head c.requires.1 c.if-b-ne1.false c.number_at-from_le.ensures c.if-from_le-i.false) c.if-kind-eq1.true c.number_at-c.ensures (decided c.has_records.ensures c.if-has_records.true)
+    is_words (head c.requires.1 c.if-b-ne1.false c.number_at-from_le.ensures c.if-from_le-i.false) c.if-kind-eq1.true c.number_at-c.ensures
+    (decided c.has_records.ensures c.if-has_records.true)
 
 pub returns-then-kind-eq1 : goal.returns-then-kind-eq1
 returns-then-kind-eq1 c =
@@ -33,7 +34,8 @@ returns-then-kind-eq1 c =
 
 pub returns-then-has_records-2 : goal.returns-then-has_records-2
 returns-then-has_records-2 c =
-    is_rules (head c.requires.1 c.if-b-ne1.false c.number_at-from_le.ensures c.if-from_le-i.false) c.if-kind-eq2.true c.number_at-c.ensures (decided c.has_records-then-kind-eq2.ensures c.if-has_records-2.true)
+    is_rules (head c.requires.1 c.if-b-ne1.false c.number_at-from_le.ensures c.if-from_le-i.false) c.if-kind-eq2.true c.number_at-c.ensures
+    (decided c.has_records-then-kind-eq2.ensures c.if-has_records-2.true)
 
 pub returns-then-kind-eq2 : goal.returns-then-kind-eq2
 returns-then-kind-eq2 c =
@@ -54,5 +56,6 @@ overflow_cast-result c = record { fits = four_fit _ _ _ (record { each = λ j. (
 
 pub returns : goal.returns
 returns c =
-    is_end (head c.requires.1 c.if-b-ne1.false c.number_at-from_le.ensures c.if-from_le-i.false) c.if-kind-ne3.false c.number_at-c.ensures c.if-c-ne0.false c.load.ensures
+    is_end (head c.requires.1 c.if-b-ne1.false c.number_at-from_le.ensures c.if-from_le-i.false) c.if-kind-ne3.false c.number_at-c.ensures c.if-c-ne0.false
+    c.load.ensures
     (decided c.is_clear.ensures (not-false _ c.if-not-is_clear.false-raw))

@@ -9,11 +9,19 @@ loop-i-init c = (search rules, load_start _ c.args.at c.args.k)
 
 pub overflow_mul-x : goal.overflow_mul-x
 overflow_mul-x c =
-    omega (arith, load_fits c.args.b.now (c.args.at + c.loop-i.i) (c.args.k - c.loop-i.i) c.loop-i.x (record { each = λ i. (c.type_inv.b i).fits }) (omega arith) c.loop-i.invariant.1)
+    omega (
+      arith,
+      load_fits c.args.b.now (c.args.at + c.loop-i.i) (c.args.k - c.loop-i.i) c.loop-i.x (record { each = λ i. (c.type_inv.b i).fits })
+          (omega arith) c.loop-i.invariant.1,
+    )
 
 pub overflow_add-x : goal.overflow_add-x
 overflow_add-x c =
-    omega (arith, load_fits c.args.b.now (c.args.at + c.loop-i.i) (c.args.k - c.loop-i.i) c.loop-i.x (record { each = λ i. (c.type_inv.b i).fits }) (omega arith) c.loop-i.invariant.1)
+    omega (
+      arith,
+      load_fits c.args.b.now (c.args.at + c.loop-i.i) (c.args.k - c.loop-i.i) c.loop-i.x (record { each = λ i. (c.type_inv.b i).fits })
+          (omega arith) c.loop-i.invariant.1,
+    )
 
 pub loop-i-preserved : goal.loop-i-preserved
 loop-i-preserved c =

@@ -30,9 +30,11 @@ loop-i-preserved c = (search rules, of_on (subst (Turned _ _) c.in-On.is c.turn_
 pub returns-in_default : goal.returns-in_default
 returns-in_default c =
     let x = subst (Stands _ _) c.in_default.is c.loop-i.invariant.1 in
-    unended (record { whole = c.if-n-ne0.false; some = omega arith; most = c.if-k-gt7.false }) (record { each = λ j. (c.type_inv.file j).fits }) c.loop-i.invariant.0 c.loop-i-test.false x
+    unended (record { whole = c.if-n-ne0.false; some = omega arith; most = c.if-k-gt7.false }) (record { each = λ j. (c.type_inv.file j).fits })
+    c.loop-i.invariant.0 c.loop-i-test.false x
 
 pub returns : goal.returns
 returns c =
     let x = subst (Stands _ _) c.in-Ended.is c.loop-i.invariant.1 in
-    all_read (record { whole = c.if-n-ne0.false; some = omega arith; most = c.if-k-gt7.false }) (record { each = λ j. (c.type_inv.file j).fits }) c.loop-i.invariant.0 c.loop-i-test.false x
+    all_read (record { whole = c.if-n-ne0.false; some = omega arith; most = c.if-k-gt7.false }) (record { each = λ j. (c.type_inv.file j).fits })
+    c.loop-i.invariant.0 c.loop-i-test.false x

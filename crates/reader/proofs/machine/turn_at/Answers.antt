@@ -23,7 +23,8 @@ returns-then-sum_of c =
 
 pub returns-in_default : goal.returns-in_default
 returns-in_default c =
-    turn_ended (record { under = record { each = λ j. (c.type_inv.file j).fits }; room = c.requires.0 }) (subst (Stands _ _) c.in_default.is c.requires.1) (right _ _ c.sum_of.ensures c.if-sum_of.false)
+    turn_ended (record { under = record { each = λ j. (c.type_inv.file j).fits }; room = c.requires.0 }) (subst (Stands _ _) c.in_default.is c.requires.1)
+    (right _ _ c.sum_of.ensures c.if-sum_of.false)
 
 pub step_on-s-requires : goal.step_on-s-requires
 step_on-s-requires c =
@@ -32,12 +33,15 @@ step_on-s-requires c =
 
 pub returns-in-Go : goal.returns-in-Go
 returns-in-Go c =
-    turn_go (record { under = record { each = λ j. (c.type_inv.file j).fits }; room = c.requires.0 }) (subst (Stands _ _) c.in-Going.is c.requires.1) (subst (BlockStep _ _ _ _) c.in-Go.is (stepped_there _ _ c.step_on-s.ensures))
+    turn_go (record { under = record { each = λ j. (c.type_inv.file j).fits }; room = c.requires.0 }) (subst (Stands _ _) c.in-Going.is c.requires.1)
+    (subst (BlockStep _ _ _ _) c.in-Go.is (stepped_there _ _ c.step_on-s.ensures))
 
 pub returns-in-Done : goal.returns-in-Done
 returns-in-Done c =
-    turn_done (record { under = record { each = λ j. (c.type_inv.file j).fits }; room = c.requires.0 }) (subst (Stands _ _) c.in-Going.is c.requires.1) (subst (BlockStep _ _ _ _) c.in-Done.is (stepped_there _ _ c.step_on-s.ensures))
+    turn_done (record { under = record { each = λ j. (c.type_inv.file j).fits }; room = c.requires.0 }) (subst (Stands _ _) c.in-Going.is c.requires.1)
+    (subst (BlockStep _ _ _ _) c.in-Done.is (stepped_there _ _ c.step_on-s.ensures))
 
 pub returns-in-Fault : goal.returns-in-Fault
 returns-in-Fault c =
-    turn_fault (record { under = record { each = λ j. (c.type_inv.file j).fits }; room = c.requires.0 }) (subst (Stands _ _) c.in-Going.is c.requires.1) (right _ _ c.sum_of.ensures c.if-sum_of.false) (subst (BlockStep _ _ _ _) c.in-Fault.is (stepped_there _ _ c.step_on-s.ensures))
+    turn_fault (record { under = record { each = λ j. (c.type_inv.file j).fits }; room = c.requires.0 }) (subst (Stands _ _) c.in-Going.is c.requires.1)
+    (right _ _ c.sum_of.ensures c.if-sum_of.false) (subst (BlockStep _ _ _ _) c.in-Fault.is (stepped_there _ _ c.step_on-s.ensures))

@@ -15,12 +15,15 @@ loop-j-init c =
 pub loop-j-preserved : goal.loop-j-preserved
 loop-j-preserved c =
     let one =
-    rule_put c.loop-j.b c.put_bytes.new.b c.put_zeros.new.b c.args.rules.now (8 + 8 * c.loop-j.j) (c.args.first + c.loop-j.j) (omega arith) (omega arith) c.put_bytes.ensures c.put_zeros.ensures in
+    rule_put c.loop-j.b c.put_bytes.new.b c.put_zeros.new.b c.args.rules.now (8 + 8 * c.loop-j.j) (c.args.first + c.loop-j.j) (omega arith) (omega arith)
+    c.put_bytes.ensures c.put_zeros.ensures in
     let turn =
-    flat_turn c.args.b.now c.loop-j.b c.put_zeros.new.b 8 (8 + 8 * c.loop-j.j) 8 c.loop-j.j (rules_from c.args.rules.now c.args.first) (λ i. fair1.rules.sized _ _) refl
+    flat_turn c.args.b.now c.loop-j.b c.put_zeros.new.b 8 (8 + 8 * c.loop-j.j) 8 c.loop-j.j (rules_from c.args.rules.now c.args.first)
+    (λ i. fair1.rules.sized _ _) refl
     (omega arith) c.loop-j.invariant.2 one in
     (search rules, search rules, turn)
 
 pub returns : goal.returns
 returns c =
-    flat_end c.args.b.now c.loop-j.b 8 c.loop-j.j c.args.c (rules_from c.args.rules.now c.args.first) c.loop-j.invariant.0 c.loop-j-test.false c.loop-j.invariant.2
+    flat_end c.args.b.now c.loop-j.b 8 c.loop-j.j c.args.c (rules_from c.args.rules.now c.args.first) c.loop-j.invariant.0 c.loop-j-test.false
+    c.loop-j.invariant.2

@@ -14,10 +14,12 @@ loop-x-init c =
 pub loop-x-preserved : goal.loop-x-preserved
 loop-x-preserved c =
     let turn =
-    flat_turn c.args.b.now c.loop-x.b c.put_number.new.b 8 (8 + 8 * c.loop-x.x) 8 c.loop-x.x (items_from c.args.words.now (3 * c.args.first)) (λ i. length_le 8 _) refl
+    flat_turn c.args.b.now c.loop-x.b c.put_number.new.b 8 (8 + 8 * c.loop-x.x) 8 c.loop-x.x (items_from c.args.words.now (3 * c.args.first))
+    (λ i. length_le 8 _) refl
     (omega arith) c.loop-x.invariant.2 c.put_number.ensures in
     (search rules, search rules, turn)
 
 pub returns : goal.returns
 returns c =
-    flat_end c.args.b.now c.loop-x.b 8 c.loop-x.x (3 * c.args.c) (items_from c.args.words.now (3 * c.args.first)) c.loop-x.invariant.0 c.loop-x-test.false c.loop-x.invariant.2
+    flat_end c.args.b.now c.loop-x.b 8 c.loop-x.x (3 * c.args.c) (items_from c.args.words.now (3 * c.args.first)) c.loop-x.invariant.0 c.loop-x-test.false
+    c.loop-x.invariant.2

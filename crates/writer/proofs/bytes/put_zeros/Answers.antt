@@ -14,7 +14,8 @@ pub loop-i-preserved : goal.loop-i-preserved
 loop-i-preserved c =
     let n = length_zeros c.args.k in
     let turn =
-    put_turn c.loop-i.b c.args.b.now c.args.at c.loop-i.i 0 (zeros c.args.k) (omega arith) (omega arith) c.loop-i.invariant.2 (sym (at_zeros c.args.k c.loop-i.i)) in
+    put_turn c.loop-i.b c.args.b.now c.args.at c.loop-i.i 0 (zeros c.args.k) (omega arith) (omega arith) c.loop-i.invariant.2
+    (sym (at_zeros c.args.k c.loop-i.i)) in
     (search rules, simp length-set c.loop-i.invariant.1, turn)
 
 pub returns : goal.returns
