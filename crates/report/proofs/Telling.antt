@@ -58,7 +58,7 @@ module _ {limit : ℕ} {ws bs m k : List ℕ} where
       told (found_first s) (printed_same same p) c
 
   none_at : {g : ℕ} {m' n : List ℕ} → Solving limit ws bs m k (solved.Nothing g) m' n → Comes limit ws bs (none g) × Cleared k n
-  none_at (Solving.Found-None given s c) = (s, c)
+  none_at (Solving.found_none given s c) = (s, c)
 
   gave_up_after : {g : ℕ} {l l' m' n : List ℕ} {e : ℕ} → Solving limit ws bs m k (solved.GaveUp g) m' n → Printed (unknown g) l l' e
       → Told limit ws bs l k e l' n

@@ -1,0 +1,17 @@
+use mathlib.Core.Path.{◌≡◌, refl, ◌∙◌}
+use Prim.Native.Nat.{◌+◌, ◌*◌, ◌≤◌, ◌-◌}
+use native.Mathlib.Omega.{arith}
+use borrow.Author.Rules.{rules}
+use lib.ListN.{length, take, length-set}
+use Rattle.decimal.specs.Text.{spaced}
+use Rattle.decimal.specs.Putting.{Appended}
+use Rattle.decimal.proofs.Decimals.{decimal_below}
+use Rattle.decimal.proofs.Puts.{numbers_start}
+use Rattle.report.proofs.Puts.{entry_turn, entries_end}
+use Rattle.report.proofs.line.put_entries.Given as goal
+
+abbrev pub invariant-loop-i : goal.invariant-loop-i
+invariant-loop-i l = Appended l.initial.out l.at (spaced (take l.i l.list)) l.out l.e × (length l.out ≡ length l.initial.out) × (l.i ≤ l.n) × (l.e ≤ l.at + 6 * l.i)
+
+abbrev pub decreases-loop-i : goal.decreases-loop-i
+decreases-loop-i l = l.n - l.i

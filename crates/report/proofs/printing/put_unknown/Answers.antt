@@ -1,0 +1,6 @@
+use borrow.Author.Rules.{rules}
+use Rattle.report.proofs.Reports.{unknown_put}
+use Rattle.report.proofs.printing.put_unknown.Goals as goal
+
+pub returns : goal.returns
+returns c = unknown_put _ c.put_line.ensures.0

@@ -1,0 +1,16 @@
+use mathlib.Core.Path.{◌≡◌, refl, ◌∙◌}
+use Prim.Native.Nat.{◌+◌, ◌*◌, ◌≤◌, ◌-◌}
+use native.Mathlib.Omega.{arith}
+use borrow.Author.Rules.{rules}
+use lib.ListN.{length}
+use Rattle.decimal.specs.Putting.{Appended}
+use Rattle.lists.specs.Lists.{flat}
+use Rattle.report.proofs.Puts.{pieces_start, pieces_turn}
+use Rattle.report.proofs.Reports.{lent_line, words_end}
+use Rattle.report.proofs.printing.put_words.Given as goal
+
+abbrev pub invariant-loop-i : goal.invariant-loop-i
+invariant-loop-i l = Appended l.initial.out l.at (flat l.i (lent_line l.words l.model)) l.out l.e × (length l.out ≡ length l.initial.out) × (l.i ≤ l.n) × (l.e ≤ l.at + 71 * l.i)
+
+abbrev pub decreases-loop-i : goal.decreases-loop-i
+decreases-loop-i l = l.n - l.i
