@@ -2,11 +2,11 @@
 use mathlib.Core.Path.{refl, ap}
 use mathlib.Core.Bool.{Bool, true, false, ◌&&◌}
 use mathlib.Core.List.{List, [], ◌∷◌}
-use Prim.Native.Nat.{ℕ, zero, suc}
+use Prim.Native.Nat.{ℕ, zero, suc, ◌<◌}
 use native.Mathlib.Omega.{arith}
 use lib.Dec.{T}
 use lib.ListN.{length}
-use Rattle.words.specs.Word.{bounded}
+use Rattle.words.specs.Word.{Width, Bounded, bounded}
 use Rattle.words.specs.Table.{Table}
 use Rattle.lists.specs.Lists.{at}
 use Rattle.words.proofs.Order.{⊑_refl}
@@ -47,8 +47,9 @@ proper_sound (w ∷ ws) (l ∷ ls) (h ∷ hs) t =
     record {
       los = ap suc rest.los;
       his = ap suc rest.his;
-      width = λ i. elim i [ zero ↦ λ k. width_met w a | suc n ↦ λ k. rest.width n (omega arith) ];
-      bounded = λ i. elim i [ zero ↦ bounded_sound w l h b | suc n ↦ rest.bounded n ];
+      width = λ i. elim i as (λ n. n < length (w ∷ ws) → Width (at (w ∷ ws) n)) [ zero ↦ λ k. width_met w a | suc n ↦ λ k. rest.width n (omega arith) ];
+      bounded = λ i. elim i as (λ n. Bounded (at (w ∷ ws) n) (at (l ∷ ls) n) (at (h ∷ hs) n))
+      [ zero ↦ bounded_sound w l h b | suc n ↦ rest.bounded n ];
     }
 
 -- ---- a legal rule
