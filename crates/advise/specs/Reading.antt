@@ -5,4 +5,4 @@ use Rattle.advise.specs.declared.Input.TheVariants.{Bytes, Failed}
 
 abbrev pub InputRead : Input → List ℕ → Type 0
 InputRead (Bytes n) l = n ≤ length l
-InputRead Failed l = Unit {0}
+InputRead (Failed e) l = Unit {0}

@@ -5,47 +5,58 @@
 #![tactic(auto)]
 ghost use Rattle.advise.specs.Reading.{InputRead};
 
-use libc::{STDIN_FILENO, STDOUT_FILENO};
 use report::program::lines_of;
+use std::io::{Error, Read};
 
-// How much of the input was read, or that reading failed.
-#[derive(Clone, Copy)]
+// How much of the input was read, or why reading failed.
+#[derive(Drop)]
 enum Input {
     Bytes(usize),
-    Failed,
+    Failed(Error),
 }
 
 // Reads until the input ends or there is no room. Each read moves a byte or more, or is the last one, so the turns always do.
-fn read_input(file: &mut [u8]) -> Input
+fn read_input<R: Read>(input: &mut R, file: &mut [u8]) -> Input
     ensures { InputRead result file.new }
 {
     let mut at = 0;
     let mut turns = file.len();
     while 0 < turns {
-        let got = libc::read(STDIN_FILENO, &mut file[at..]);
-        if got < 0 {
-            return Input::Failed;
+        match input.read(&mut file[at..]) {
+            Err(error) => return Input::Failed(error),
+            Ok(0) => return Input::Bytes(at),
+            Ok(n) => at += n,
         }
-        let n = io::count(got, &file[at..]);
-        if n == 0 {
-            return Input::Bytes(at);
-        }
-        at += n;
         turns -= 1;
     }
     Input::Bytes(at)
 }
 
-// One byte more than the longest file is asked for: a file that fills it is too long, and no more of it is read.
-fn main() {
-    let mut file = [0; 3585];
-    let Input::Bytes(n) = read_input(&mut file) else {
-        os::fail(b"standard input");
-        return;
+// One line on standard error: what failed, and why in the system's words, without the number that they end with.
+fn fail(rt: &HostRuntime, what: &str, error: &Error) {
+    let said = match format!(in rt.alloc(); "{error}") {
+        Ok(text) => match text.as_str().split_once(" (os error ") {
+            Some((why, _)) => eprintln!(rt; "{what}: {why}"),
+            None => eprintln!(rt; "{what}: {text}"),
+        },
+        Err(_) => eprintln!(rt; "{what}: {error}"),
     };
-    let mut out = [0; 2304];
-    let mut work = [0; 5120];
-    if !io::write_all(STDOUT_FILENO, lines_of(&file[..n], &mut out, &mut work)) {
-        os::fail(b"standard output");
+    // where standard error cannot be written, nothing is left to say it on
+    let _ = said;
+}
+
+// One byte more than the longest file is asked for: a file that fills it is too long, and no more of it is read.
+fn main(rt: HostRuntime) {
+    let mut file = [0; 3585];
+    let mut input = rt.stdin();
+    match read_input(&mut input, &mut file) {
+        Input::Failed(error) => fail(&rt, "standard input", &error),
+        Input::Bytes(n) => {
+            let mut out = [0; 2304];
+            let mut work = [0; 5120];
+            if let Err(error) = rt.write_all(lines_of(&file[..n], &mut out, &mut work)) {
+                fail(&rt, "standard output", &error);
+            }
+        }
     }
 }
