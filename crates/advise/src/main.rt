@@ -3,6 +3,7 @@
 // says what failed; after a failed write one line there says so, and some of the bytes may have been written. The exit status is 0 in each case: a program of
 // this language has no other.
 #![tactic(auto)]
+
 ghost use Rattle.advise.specs.Reading.{InputRead};
 
 use report::program::lines_of;

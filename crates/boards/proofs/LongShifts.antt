@@ -1,6 +1,5 @@
 -- Shifts by the width and by more compute their words: board L's shift at k = 4 and at k = 255, and a board whose ceiling counts its first word alone.
 use mathlib.Core.Path.{◌≡◌, refl, subst}
-use mathlib.Core.List.{[], ◌∷◌}
 use lib.Dec.{T}
 use Rattle.boards.specs.Boards.{long_shifts}
 use Rattle.words.specs.Bits.{bit}

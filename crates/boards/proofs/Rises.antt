@@ -1,6 +1,5 @@
 -- A rule added may raise the count, though never the ceiling: one open word of width 2 takes 2 guesses, and with "it is not itself" 3.
 use mathlib.Core.Path.{◌≡◌, refl, subst}
-use mathlib.Core.List.{[], ◌∷◌}
 use lib.Dec.{T}
 use Rattle.boards.specs.Boards.{rises}
 use Rattle.lists.specs.Every.{All}

@@ -49,7 +49,7 @@ proper_sound (w ∷ ws) (l ∷ ls) (h ∷ hs) t =
       his = ap suc rest.his;
       width = λ i. elim i as (λ n. n < length (w ∷ ws) → Width (at (w ∷ ws) n)) [ zero ↦ λ k. width_met w a | suc n ↦ λ k. rest.width n (omega arith) ];
       bounded = λ i. elim i as (λ n. Bounded (at (w ∷ ws) n) (at (l ∷ ls) n) (at (h ∷ hs) n))
-      [ zero ↦ bounded_sound w l h b | suc n ↦ rest.bounded n ];
+          [ zero ↦ bounded_sound w l h b | suc n ↦ rest.bounded n ];
     }
 
 -- ---- a legal rule

@@ -1,6 +1,7 @@
 // The answer of each call as one number: its own number in bits 0 to 7, its place, count, value, limit or length in bits 8 to 39, and above them how many
 // entries or records there are.
 #![tactic(auto)]
+
 ghost use Rattle.std.specs.Prelude.{◌≡◌};
 ghost use Rattle.packing.specs.Packed.{parts, packed, Within, checked, tightened, solved, explained, caused, read, written, advised};
 

@@ -1,5 +1,6 @@
 // The call `advise`: a block file read, its problem solved, the cause looked for where there are no settings, and the report put into lent bytes as lines.
 #![tactic(auto)]
+
 mod line;
 mod printing;
 pub mod program;

@@ -1,5 +1,5 @@
 -- The parts of every answer are within their bits, so that one number holds them.
-use mathlib.Core.Path.{◌≡◌, refl, ◌∙◌}
+use mathlib.Core.Path.{◌≡◌, refl}
 use mathlib.Core.List.{List}
 use Prim.Native.Nat.{ℕ, suc, ◌+◌, ◌*◌, ◌≤◌, ◌<◌}
 use native.Mathlib.Nat.{mul-le-mul_right}
@@ -12,7 +12,7 @@ use Rattle.rules.specs.Fits.{Span, Legal}
 use Rattle.rules.proofs.ProperRules.{problem_legal}
 use Rattle.checker.specs.declared.Checked.{Checked}
 use Rattle.problem.specs.Lent.{word_count, rule_count, rule_at, rules_of}
-use Rattle.checker.specs.Demands.{number, place, Sized}
+use Rattle.checker.specs.Demands.{Sized}
 use Rattle.checker.specs.Refusal.{refusal_with}
 use Rattle.checker.specs.Promise.{Fine}
 use Rattle.checker.proofs.Right.{ok_fine}

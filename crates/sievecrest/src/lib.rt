@@ -1,6 +1,7 @@
 // The calls for C and Rust. A slice passes as a pointer and its length; an answer comes back as one number, so that none travels through lent memory.
 // Each call promises what the library's own call promises, and that its number is that answer's.
 #![tactic(auto)]
+
 ghost use Rattle.std.specs.Prelude.{◌≡◌, min};
 ghost use Rattle.checker.specs.Refusal.{refusal_with};
 ghost use Rattle.tighten.specs.Promise.{Tightening};

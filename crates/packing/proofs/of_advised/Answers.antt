@@ -1,6 +1,5 @@
 use mathlib.Core.Path.{sym, ap, subst, ◌∙◌}
 use Rattle.packing.specs.Packed.{packed, Within, advised}
-use borrow.Author.Rules.{rules}
 use Rattle.packing.proofs.of_advised.Goals as goal
 
 pub pack-requires : goal.pack-requires

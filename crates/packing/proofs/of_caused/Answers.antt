@@ -1,6 +1,5 @@
 use mathlib.Core.Path.{sym, ap, subst, ◌∙◌}
 use Rattle.packing.specs.Packed.{packed, Within, caused}
-use borrow.Author.Rules.{rules}
 use Rattle.packing.proofs.of_caused.Goals as goal
 
 pub pack-requires : goal.pack-requires

@@ -1,6 +1,5 @@
 use mathlib.Core.Path.{sym, ap, subst, ◌∙◌}
 use Rattle.packing.specs.Packed.{packed, Within, checked}
-use borrow.Author.Rules.{rules}
 use Rattle.packing.proofs.of_checked.Goals as goal
 
 pub pack-requires-in-Refused : goal.pack-requires-in-Refused

@@ -1,7 +1,6 @@
 use mathlib.Core.Path.{sym, ap, subst, ◌∙◌}
 use Rattle.packing.specs.Packed.{packed, Within, read}
 use native.Mathlib.Omega.{arith}
-use borrow.Author.Rules.{rules}
 use Rattle.packing.proofs.of_read.Goals as goal
 
 pub overflow_mul-y : goal.overflow_mul-y

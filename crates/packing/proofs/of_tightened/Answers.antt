@@ -1,6 +1,5 @@
 use mathlib.Core.Path.{sym, ap, subst, ◌∙◌}
 use Rattle.packing.specs.Packed.{packed, Within, tightened}
-use borrow.Author.Rules.{rules}
 use Rattle.packing.proofs.of_tightened.Goals as goal
 
 pub pack-requires-in-Refused : goal.pack-requires-in-Refused

@@ -1,11 +1,7 @@
 use mathlib.Core.Path.{sym}
-use Prim.Native.Nat.{◌*◌, ◌≤◌}
 use native.Mathlib.Omega.{arith}
-use lib.ListN.{length}
 use lib.Seq.{length-take-le}
-use borrow.Author.Rules.{rules}
 use Rattle.lists.specs.Lists.{zeros}
-use Rattle.report.specs.Promise.{Lent}
 use Rattle.report.proofs.Advising.{short_bytes, short_work, unread_lines, few, read_asked, told_lines}
 use Rattle.report.proofs.advise.Goals as goal
 

@@ -1,4 +1,3 @@
-use borrow.Author.Rules.{rules}
 use mathlib.Core.Path.{refl}
 use Rattle.report.proofs.Telling.{valued, found_told, none_comes, gave_up_told, asked_after, told_after, never_refused}
 use Rattle.report.proofs.tell.Goals as goal

@@ -1,4 +1,3 @@
-use borrow.Author.Rules.{rules}
 use mathlib.Core.Path.{refl}
 use Rattle.report.proofs.Naming.{trials_asked, cause_room, cause_told, unnamed_told, never_exists, never_refused}
 use Rattle.report.proofs.tell_none.Goals as goal

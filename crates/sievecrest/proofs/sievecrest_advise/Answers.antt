@@ -2,7 +2,6 @@ use mathlib.Core.Path.{sym, ◌∙◌}
 use native.Mathlib.Omega.{arith}
 use Rattle.sievecrest.proofs.Sizes.{advise_within}
 use Rattle.sievecrest.proofs.Wider.{first_length, advise_wider}
-use borrow.Author.Rules.{rules}
 use Rattle.sievecrest.proofs.sievecrest_advise.Goals as goal
 
 pub slice_bounds-advise-end-2 : goal.slice_bounds-advise-end-2

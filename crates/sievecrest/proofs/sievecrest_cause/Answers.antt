@@ -1,5 +1,4 @@
 use Rattle.sievecrest.proofs.Sizes.{cause_within}
-use borrow.Author.Rules.{rules}
 use Rattle.sievecrest.proofs.sievecrest_cause.Goals as goal
 
 pub of_caused-requires : goal.of_caused-requires

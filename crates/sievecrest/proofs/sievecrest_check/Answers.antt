@@ -1,5 +1,4 @@
 use Rattle.sievecrest.proofs.Sizes.{check_within}
-use borrow.Author.Rules.{rules}
 use Rattle.sievecrest.proofs.sievecrest_check.Goals as goal
 
 pub of_checked-requires : goal.of_checked-requires

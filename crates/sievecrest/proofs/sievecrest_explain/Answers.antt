@@ -1,5 +1,4 @@
 use Rattle.sievecrest.proofs.Sizes.{explain_within}
-use borrow.Author.Rules.{rules}
 use Rattle.sievecrest.proofs.sievecrest_explain.Goals as goal
 
 pub of_explained-requires : goal.of_explained-requires

@@ -1,5 +1,4 @@
 use Rattle.sievecrest.proofs.Sizes.{read_within}
-use borrow.Author.Rules.{rules}
 use Rattle.sievecrest.proofs.sievecrest_read.Goals as goal
 
 pub of_read-requires : goal.of_read-requires

@@ -1,6 +1,5 @@
 use native.Mathlib.Omega.{arith}
 use Rattle.sievecrest.proofs.Sizes.{solve_within}
-use borrow.Author.Rules.{rules}
 use Rattle.sievecrest.proofs.sievecrest_solve.Goals as goal
 
 pub of_solved-requires : goal.of_solved-requires

@@ -1,5 +1,4 @@
 use Rattle.sievecrest.proofs.Sizes.{tighten_within}
-use borrow.Author.Rules.{rules}
 use Rattle.sievecrest.proofs.sievecrest_tighten.Goals as goal
 
 pub of_tightened-requires : goal.of_tightened-requires

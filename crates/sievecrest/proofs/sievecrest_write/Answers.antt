@@ -1,5 +1,4 @@
 use Rattle.sievecrest.proofs.Sizes.{write_within}
-use borrow.Author.Rules.{rules}
 use Rattle.sievecrest.proofs.sievecrest_write.Goals as goal
 
 pub of_written-requires : goal.of_written-requires

@@ -1,9 +1,6 @@
-use mathlib.Core.Path.{◌≡◌, refl}
-use Prim.Native.Nat.{◌+◌, ◌≤◌, ◌-◌}
+use mathlib.Core.Path.{refl}
 use native.Mathlib.Omega.{arith}
-use borrow.Author.Rules.{rules}
-use lib.ListN.{length, take, length-set}
-use Rattle.decimal.specs.Putting.{Appended}
+use lib.ListN.{length-set}
 use Rattle.decimal.proofs.Puts.{bytes_start}
 use Rattle.report.specs.Text.{binary}
 use Rattle.report.proofs.Binary.{binary_turn, binary_end}

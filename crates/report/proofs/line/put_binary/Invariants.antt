@@ -1,12 +1,8 @@
-use mathlib.Core.Path.{◌≡◌, refl}
+use mathlib.Core.Path.{◌≡◌}
 use Prim.Native.Nat.{◌+◌, ◌≤◌, ◌-◌}
-use native.Mathlib.Omega.{arith}
-use borrow.Author.Rules.{rules}
-use lib.ListN.{length, take, length-set}
+use lib.ListN.{length, take}
 use Rattle.decimal.specs.Putting.{Appended}
-use Rattle.decimal.proofs.Puts.{bytes_start}
 use Rattle.report.specs.Text.{binary}
-use Rattle.report.proofs.Binary.{binary_turn, binary_end}
 use Rattle.report.proofs.line.put_binary.Given as goal
 
 abbrev pub invariant-loop-i : goal.invariant-loop-i

@@ -1,10 +1,6 @@
-use mathlib.Core.Path.{◌≡◌, refl, ◌∙◌}
-use Prim.Native.Nat.{◌+◌, ◌*◌, ◌≤◌, ◌-◌}
+use mathlib.Core.Path.{refl, ◌∙◌}
 use native.Mathlib.Omega.{arith}
-use borrow.Author.Rules.{rules}
-use lib.ListN.{length, take, length-set}
-use Rattle.decimal.specs.Text.{spaced}
-use Rattle.decimal.specs.Putting.{Appended}
+use lib.ListN.{length-set}
 use Rattle.decimal.proofs.Decimals.{decimal_below}
 use Rattle.decimal.proofs.Puts.{numbers_start}
 use Rattle.report.proofs.Puts.{entry_turn, entries_end}
@@ -18,14 +14,13 @@ put-e-requires c =
     simp length-set (omega (arith, c.requires, decimal_below 4 c.wide.result (omega arith) (omega arith)))
 
 pub loop-i-preserved : goal.loop-i-preserved
-loop-i-preserved c =
-    (
-      entry_turn c.args.list.now c.loop-i.i c.wide.result c.loop-i.invariant.0 (omega (arith, c.requires)) c.put-e.ensures c.wide.ensures.0
-          (omega (arith, c.requires)),
-      c.put-e.auto.out ∙ simp length-set c.loop-i.invariant.1,
-      omega arith,
-      omega (arith, c.loop-i.invariant.3, c.put-e.ensures.ends, decimal_below 4 c.wide.result (omega arith) (omega arith)),
-    )
+loop-i-preserved c = (
+  entry_turn c.args.list.now c.loop-i.i c.wide.result c.loop-i.invariant.0 (omega (arith, c.requires)) c.put-e.ensures c.wide.ensures.0
+      (omega (arith, c.requires)),
+  c.put-e.auto.out ∙ simp length-set c.loop-i.invariant.1,
+  omega arith,
+  omega (arith, c.loop-i.invariant.3, c.put-e.ensures.ends, decimal_below 4 c.wide.result (omega arith) (omega arith)),
+)
 
 pub returns : goal.returns
 returns c =

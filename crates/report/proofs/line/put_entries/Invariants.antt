@@ -1,13 +1,8 @@
-use mathlib.Core.Path.{◌≡◌, refl, ◌∙◌}
+use mathlib.Core.Path.{◌≡◌}
 use Prim.Native.Nat.{◌+◌, ◌*◌, ◌≤◌, ◌-◌}
-use native.Mathlib.Omega.{arith}
-use borrow.Author.Rules.{rules}
-use lib.ListN.{length, take, length-set}
+use lib.ListN.{length, take}
 use Rattle.decimal.specs.Text.{spaced}
 use Rattle.decimal.specs.Putting.{Appended}
-use Rattle.decimal.proofs.Decimals.{decimal_below}
-use Rattle.decimal.proofs.Puts.{numbers_start}
-use Rattle.report.proofs.Puts.{entry_turn, entries_end}
 use Rattle.report.proofs.line.put_entries.Given as goal
 
 abbrev pub invariant-loop-i : goal.invariant-loop-i

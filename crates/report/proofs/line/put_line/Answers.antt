@@ -1,5 +1,4 @@
 use native.Mathlib.Omega.{arith}
-use borrow.Author.Rules.{rules}
 use Rattle.report.proofs.Puts.{line_put}
 use Rattle.report.proofs.line.put_line.Goals as goal
 

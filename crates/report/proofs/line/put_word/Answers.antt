@@ -1,6 +1,5 @@
 use Rattle.std.proofs.Common.{◌≡◌, ℕ, ◌+◌, ◌<◌, ◌≤◌, [], ◌∷◌, length}
 use native.Mathlib.Omega.{arith}
-use borrow.Author.Rules.{rules}
 use Rattle.decimal.proofs.Decimals.{decimal_below}
 use Rattle.decimal.specs.Text.{decimal, spaced}
 use Rattle.report.proofs.Binary.{length_binary}

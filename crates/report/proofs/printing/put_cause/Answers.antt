@@ -1,4 +1,3 @@
-use borrow.Author.Rules.{rules}
 use Rattle.report.proofs.Reports.{cause_put}
 use Rattle.report.proofs.printing.put_cause.Goals as goal
 

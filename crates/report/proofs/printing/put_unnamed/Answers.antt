@@ -1,4 +1,3 @@
-use borrow.Author.Rules.{rules}
 use Rattle.report.proofs.Reports.{unnamed_put}
 use Rattle.report.proofs.printing.put_unnamed.Goals as goal
 

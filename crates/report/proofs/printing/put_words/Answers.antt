@@ -1,12 +1,7 @@
-use mathlib.Core.Path.{◌≡◌, refl, ◌∙◌}
-use Prim.Native.Nat.{◌+◌, ◌*◌, ◌≤◌, ◌-◌}
+use mathlib.Core.Path.{refl, ◌∙◌}
 use native.Mathlib.Omega.{arith}
-use borrow.Author.Rules.{rules}
-use lib.ListN.{length}
-use Rattle.decimal.specs.Putting.{Appended}
-use Rattle.lists.specs.Lists.{flat}
 use Rattle.report.proofs.Puts.{pieces_start, pieces_turn}
-use Rattle.report.proofs.Reports.{lent_line, words_end}
+use Rattle.report.proofs.Reports.{words_end}
 use Rattle.report.proofs.printing.put_words.Goals as goal
 
 pub loop-i-init : goal.loop-i-init

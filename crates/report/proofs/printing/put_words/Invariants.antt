@@ -1,12 +1,9 @@
-use mathlib.Core.Path.{◌≡◌, refl, ◌∙◌}
+use mathlib.Core.Path.{◌≡◌}
 use Prim.Native.Nat.{◌+◌, ◌*◌, ◌≤◌, ◌-◌}
-use native.Mathlib.Omega.{arith}
-use borrow.Author.Rules.{rules}
 use lib.ListN.{length}
 use Rattle.decimal.specs.Putting.{Appended}
 use Rattle.lists.specs.Lists.{flat}
-use Rattle.report.proofs.Puts.{pieces_start, pieces_turn}
-use Rattle.report.proofs.Reports.{lent_line, words_end}
+use Rattle.report.proofs.Reports.{lent_line}
 use Rattle.report.proofs.printing.put_words.Given as goal
 
 abbrev pub invariant-loop-i : goal.invariant-loop-i

@@ -1,6 +1,5 @@
 use mathlib.Core.Path.{sym}
 use lib.Seq.{length-take-le}
-use borrow.Author.Rules.{rules}
 use Rattle.report.proofs.Advice.{always_lines, lines_advice, answer_within}
 use Rattle.report.proofs.program.lines_of.Goals as goal
 
