@@ -15,7 +15,9 @@ KINDS = (
 
 def main():
     passed = failed = 0
-    listed = {line.split(":")[0].strip() for line in open("crates.txt", encoding="utf-8") if line.split("#")[0].strip()}
+    # a line is NAME: USED .., or NAME WORD ..: USED ..
+    lines = [line.split("#")[0] for line in open("crates.txt", encoding="utf-8")]
+    listed = {line.split(":")[0].split()[0] for line in lines if line.strip()}
     there = set(os.listdir("crates"))
     for name in sorted(listed | there):
         if name not in there:
@@ -27,7 +29,10 @@ def main():
         else:
             passed += 1
     for name in sorted(listed & there):
-        for folder, _, files in os.walk(os.path.join("crates", name)):
+        for folder, inner, files in os.walk(os.path.join("crates", name)):
+            if folder == os.path.join("crates", name) and "out" in inner:
+                # what rt made
+                inner.remove("out")
             for file in files:
                 path = os.path.relpath(os.path.join(folder, file), os.path.join("crates", name))
                 if not any(re.fullmatch(kind, path) for kind in KINDS):

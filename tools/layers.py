@@ -1,9 +1,9 @@
 #!/usr/bin/env python3
 """The layers of crates as a picture: tools/layers.py [crates.txt] > docs/layers.svg
 
-Each line of crates.txt is a crate and the crates below it. A crate stands one row above the highest crate that it uses. A line is drawn to a crate that is used
-unless another used crate uses it too. Names that are no crates of the file, as the kit's own libraries, are left out. Crates of theory, named so, have a colour
-of their own. Places are whole numbers, so that the picture is the same on every machine.
+Each line of crates.txt is a crate and the crates below it; a second word before the colon says how the crate is built. A crate stands one row above the highest
+crate that it uses. A line is drawn to a crate that is used unless another used crate uses it too. Names that are no crates of the file, as the kit's own
+libraries, are left out. Crates of theory, named so, have a colour of their own. Places are whole numbers, so that the picture is the same on every machine.
 """
 import sys
 
@@ -14,7 +14,7 @@ SWEEPS = 24
 def read(text):
     """The crates that each crate names, in the order of the file."""
     lines = [line.split("#")[0] for line in text.splitlines()]
-    named = {name.strip(): rest.split() for name, _, rest in (line.partition(":") for line in lines) if name.strip()}
+    named = {name.split()[0]: rest.split() for name, _, rest in (line.partition(":") for line in lines) if name.strip()}
     return {name: [x for x in rest if x in named] for name, rest in named.items()}
 
 

@@ -26,7 +26,7 @@ def picture(crates):
 def uses(crates):
     """The crates, each with what it names."""
     lines = (line.split("#")[0].partition(":") for line in crates.splitlines())
-    return {name.strip(): set(rest.split()) for name, _, rest in lines if name.strip()}
+    return {name.split()[0]: set(rest.split()) for name, _, rest in lines if name.strip()}
 
 
 def listed(page):
