@@ -100,7 +100,7 @@ def places():
     """Where each number stands in the crates: its name, a file or several, and the text around it."""
     for name in ANSWERS:
         yield name, CODE, constant(name)
-        yield name, SPECS, definition(name.replace("_", "-"))
+        yield name, SPECS, definition(name)
     for name in REFUSALS:
         yield "REFUSED_" + name, CODE, constant(name)
     for name in "SIZE WIDTH TABLE KIND FIELD FIT LIMIT".split():
@@ -110,25 +110,25 @@ def places():
     for name, code, spec in (
         ("WORD_NUMBERS", "STRIDE", "stride"),
         ("RULE_BYTES", "FIELDS", "fields"),
-        ("MAX_WORDS", "WORDS", "most-words"),
-        ("MAX_RULES", "RULES", "most-rules"),
-        ("MAX_LIMIT", "GUESSES", "most-guesses"),
+        ("MAX_WORDS", "WORDS", "most_words"),
+        ("MAX_RULES", "RULES", "most_rules"),
+        ("MAX_LIMIT", "GUESSES", "most_guesses"),
     ):
         yield name, CODE, public(code)
         yield name, SPECS, definition(spec)
     yield "MAX_WIDTH", CODE, r"\bone_to\((\d+), w\)"
-    yield "MAX_WIDTH", SPECS, r"^isWidth w = oneTo (\d+) w$"
+    yield "MAX_WIDTH", SPECS, r"^is_width w = one_to (\d+) w$"
     yield "MAX_WIDTH", SPECS, r"^  pub high : w ≤ (\d+)$"
     for name in "TIGHTEN SOLVE CAUSE".split():
         yield name + "_WORK", f"crates/{name.lower()}/src/lib.rt", constant("WORK")
-        yield name + "_WORK", f"crates/{name.lower()}/specs/Promise.antt", definition(name.lower() + "Work")
+        yield name + "_WORK", f"crates/{name.lower()}/specs/Promise.antt", definition(name.lower() + "_work")
     yield "REASON_ENTRIES", "crates/explain/src/lib.rt", constant("ENTRIES")
     yield "REASON_ENTRIES", "crates/explain/specs/Promise.antt", definition("entries")
     yield "LINES_BYTES", "crates/report/src/lib.rt", constant("MOST")
     yield "LINES_BYTES", "crates/report/specs/Printed.antt", definition("most")
-    yield "BLOCK_BYTES", "crates/blocks/specs/File.antt", r"^blockAt f i = part f \(\d+ \* i\) (\d+)$"
+    yield "BLOCK_BYTES", "crates/blocks/specs/File.antt", r"^block_at f i = part f \(\d+ \* i\) (\d+)$"
     for name in "RABS":
-        yield "PLACE_" + name, SPECS, definition("placeNo " + name)
+        yield "PLACE_" + name, SPECS, definition("place_no " + name)
 
 
 def listed(tally, path, pattern):
@@ -156,9 +156,9 @@ def bit_of(tally, name, factor):
 def shifts(tally):
     """The bits at which the detail, entries or words, and rules begin: the factors of the second and third part, and of the rules in the third."""
     path = "crates/packing/specs/Packed.antt"
-    detail = number_at(tally, "detail", path, r"^packed p = p \.number \+ (\d+) \* p \.\w+ \+ \d+ \* p \.\w+$")
-    entries = number_at(tally, "entries", path, r"^packed p = p \.number \+ \d+ \* p \.\w+ \+ (\d+) \* p \.\w+$")
-    rules = entries * number_at(tally, "rules", path, r"\(x \.words \+ (\d+) \* x \.rules\)$")
+    detail = number_at(tally, "detail", path, r"^packed p = p\.number \+ (\d+) \* p\.\w+ \+ \d+ \* p\.\w+$")
+    entries = number_at(tally, "entries", path, r"^packed p = p\.number \+ \d+ \* p\.\w+ \+ (\d+) \* p\.\w+$")
+    rules = entries * number_at(tally, "rules", path, r"\(x\.words \+ (\d+) \* x\.rules\)$")
     for name, factor in (("DETAIL_SHIFT", detail), ("ENTRIES_SHIFT", entries), ("WORDS_SHIFT", entries), ("RULES_SHIFT", rules)):
         yield name, bit_of(tally, name, factor)
 
@@ -285,11 +285,11 @@ def library():
         if shutil.which("rt") is None:
             stop("rt is missing: install the Rattle kit named in toolchain.txt and put its bin folder on PATH")
         progress("proving and building libsievecrest.a, which takes some minutes where little is proved yet")
-        if subprocess.run(["rt", "staticlib", "sievecrest"], check=False).returncode != 0:
-            stop("rt staticlib sievecrest fails; the messages above say why")
-    folder = os.path.abspath(named or "target/staticlib")
+        if subprocess.run(["rt", "lib"], cwd="crates/sievecrest", check=False).returncode != 0:
+            stop("rt lib fails in crates/sievecrest; the messages above say why")
+    folder = os.path.abspath(named or "crates/sievecrest/out")
     if not os.path.isfile(f"{folder}/libsievecrest.a"):
-        stop(f"there is no {folder}/libsievecrest.a; run rt staticlib sievecrest")
+        stop(f"there is no {folder}/libsievecrest.a; run rt lib in crates/sievecrest")
     return folder
 
 
@@ -393,7 +393,7 @@ def from_rust(tally, folder, program):
 def main():
     begin = time.monotonic()
     if len(sys.argv) != 2 or not os.access(sys.argv[1], os.X_OK):
-        stop("give the adviser program, proved and linked, as target/bin/advise")
+        stop("give the adviser program, proved and linked, as crates/advise/out/advise")
     for tool, package in (("cc", "gcc"), ("c++", "g++"), ("cargo", "cargo")):
         if shutil.which(tool) is None:
             stop(f"{tool} is missing; install the package {package}")
