@@ -1,4 +1,4 @@
-/* The calls of Sievecrest for C99 and C++, on Linux on x86-64: link with libsievecrest.a, which `rt staticlib sievecrest` proves and builds.
+/* The calls of Sievecrest for C99 and C++, on Linux on x86-64: link with libsievecrest.a, which `rt lib` in crates/sievecrest proves and builds.
 
 How a problem is lent. `words` are numbers of 64 bits, SIEVECREST_WORD_NUMBERS a word: width, lo, hi. `rules` are bytes, SIEVECREST_RULE_BYTES a rule: kind,
 r, a, b, s, k; a field that the kind does not use is 0. Each lent buffer is followed by its length: how many numbers, bytes or entries it has. So three words

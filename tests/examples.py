@@ -175,7 +175,7 @@ def texts():
 
 def main():
     if len(sys.argv) != 2 or not os.access(sys.argv[1], os.X_OK):
-        print("tests/examples.py: give the adviser program, proved and linked, as target/bin/advise\n0 passed, 1 failed")
+        print("tests/examples.py: give the adviser program, proved and linked, as crates/advise/out/advise\n0 passed, 1 failed")
         return 1
     passed = failed = 0
     program = os.path.abspath(sys.argv[1])

@@ -124,7 +124,7 @@ def unreported(page):
 
 
 def main():
-    for path, hint in ((library.LIBRARY, "run rt staticlib sievecrest"), ("target/bin/advise", "run ./advise")):
+    for path, hint in ((library.LIBRARY, "run rt lib in crates/sievecrest"), ("crates/advise/out/advise", "run ./advise")):
         if not os.path.isfile(path):
             stop(f"there is no {path}; {hint}")
     if not library.build():

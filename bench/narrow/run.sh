@@ -3,7 +3,7 @@
 # is taken from there.
 set -eu
 cd "$(dirname "$0")/../.."
-[ -n "${SIEVECREST_LIB_DIR-}" ] || rt staticlib sievecrest
+[ -n "${SIEVECREST_LIB_DIR-}" ] || (cd crates/sievecrest && rt lib)
 mkdir -p target/bench
-"${CC:-cc}" -O3 -Wall -Wextra -Iinclude -o target/bench/narrow bench/narrow/add.c "${SIEVECREST_LIB_DIR:-target/staticlib}/libsievecrest.a"
+"${CC:-cc}" -O3 -Wall -Wextra -Iinclude -o target/bench/narrow bench/narrow/add.c "${SIEVECREST_LIB_DIR:-crates/sievecrest/out}/libsievecrest.a"
 target/bench/narrow

@@ -34,7 +34,7 @@ def first_word(told):
 
 
 def main():
-    program = sys.argv[1] if len(sys.argv) > 1 else "target/bin/advise"
+    program = sys.argv[1] if len(sys.argv) > 1 else "crates/advise/out/advise"
     if not os.path.exists(program):
         sys.exit(f"bench/peers/run.py: {program} is missing; run ./advise once, which builds it")
     os.makedirs("target/bench", exist_ok=True)

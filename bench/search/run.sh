@@ -5,8 +5,8 @@ set -eu
 cd "$(dirname "$0")/../.."
 mkdir -p target/bench
 cc=${CC:-cc}
-rt staticlib sievecrest
-library=(-DPROVED target/staticlib/libsievecrest.a)
+(cd crates/sievecrest && rt lib)
+library=(-DPROVED crates/sievecrest/out/libsievecrest.a)
 for program in fits main depth; do
     "$cc" -O3 -Wall -Wextra -pthread -o "target/bench/search-$program" "bench/search/$program.c" bench/search/plain.c "${library[@]}"
 done

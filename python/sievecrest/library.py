@@ -1,7 +1,7 @@
 """Finds libsievecrest.a, makes a shared object of it where there is none yet, and loads that.
 
-Both stand in one folder: the one that SIEVECREST_LIB_DIR names, else target/staticlib of the repository, where `rt staticlib sievecrest` puts the archive.
-The archive is position independent, so all of it is linked as it is.
+Both stand in one folder: the one that SIEVECREST_LIB_DIR names, else crates/sievecrest/out of the repository, where `rt lib` in crates/sievecrest puts the
+archive. It is position independent, so all of it is linked as it is.
 """
 import ctypes
 import functools
@@ -24,7 +24,7 @@ class Unavailable(OSError):
 def folder():
     """Where archive and shared object stand."""
     named = os.environ.get(FOLDER)
-    return pathlib.Path(named) if named else REPOSITORY / "target" / "staticlib"
+    return pathlib.Path(named) if named else REPOSITORY / "crates" / "sievecrest" / "out"
 
 
 def command(archive, shared):
@@ -61,7 +61,7 @@ def shared_object():
     archive, shared = folder() / ARCHIVE, folder() / SHARED
     if not ready(archive, shared):
         if not archive.is_file():
-            raise Unavailable(f"{archive} is missing: run `rt staticlib sievecrest` or `./test` in the repository, or name the library's folder in {FOLDER}")
+            raise Unavailable(f"{archive} is missing: run `rt lib` in crates/sievecrest, or `./test`, in the repository, or name the library's folder in {FOLDER}")
         link(archive, shared)
     return shared
 

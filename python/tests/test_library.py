@@ -55,7 +55,7 @@ class Library(unittest.TestCase):
         self.assertEqual(self.named(), FOUND)
 
     def test_nothing_there(self):
-        self.assertIn("libsievecrest.a is missing: run `rt staticlib sievecrest` or `./test` in the repository", self.named())
+        self.assertIn("libsievecrest.a is missing: run `rt lib` in crates/sievecrest, or `./test`, in the repository", self.named())
 
     def test_no_compiler(self):
         shutil.copy(self.archive, self.folder)

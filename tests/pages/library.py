@@ -4,7 +4,7 @@ import subprocess
 
 from pages.page import SECONDS, Fault, board
 
-LIBRARY = "target/staticlib/libsievecrest.a"
+LIBRARY = "crates/sievecrest/out/libsievecrest.a"
 ASK = "target/manual/ask"
 PLACES = "rabs"
 TIGHT, CONFLICT = 36, 37

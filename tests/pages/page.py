@@ -80,7 +80,7 @@ class Page:
 def scratch(folder):
     """A folder in which the commands of the pages can be run."""
     here = os.getcwd()
-    for name in ("examples", "include", "python", "rust", "target", "tests", "tools"):
+    for name in ("crates", "examples", "include", "python", "rust", "tests", "tools"):
         if os.path.exists(name):
             os.symlink(os.path.join(here, name), os.path.join(folder, name))
     os.symlink(here, os.path.join(folder, "sievecrest"))
