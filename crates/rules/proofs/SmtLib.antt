@@ -13,7 +13,8 @@ use Rattle.words.proofs.Order.{bit_lt}
 use Rattle.rules.specs.Kinds.{Place, R, A, B, S, Op, COPY, NOT, AND, OR, XOR, ADD, ITE, SLICE, JOIN, SHL, SHR, Rel, ULE, ULT, NE, op}
 use Rattle.rules.specs.Rows.{uses, Fitting}
 use Rattle.rules.specs.Meaning.{result, Compares}
-use Rattle.rules.specs.SmtLib.{Vector, OfSize, Equal, if◌then◌else◌, bv2nat, concat, bvnot, bvand, denoted, Denoted}
+use Rattle.std.specs.Prelude.{if◌then◌else◌}
+use Rattle.rules.specs.SmtLib.{Vector, OfSize, Equal, bv2nat, concat, bvnot, bvand, denoted, Denoted}
 use Rattle.rules.proofs.SmtLibNumbers.{bv2nat_bits, bv2nat_equal, bv2nat_lt, nat2bv_sized}
 use Rattle.rules.proofs.SmtLibKinds.{copy_smtlib, not_smtlib, and_smtlib, or_smtlib, xor_smtlib, add_smtlib, ite_smtlib, slice_smtlib, join_smtlib}
 use Rattle.rules.proofs.SmtLibKinds.{shl_smtlib, shr_smtlib}

@@ -1,6 +1,6 @@
 -- To be believed: SMT-LIB's own definitions of what the kinds compute and compare, each quoted above its definition as SMT-LIB publishes it in the theories
 -- FixedSizeBitVectors and Core and in the logic QF_BV. `[[t]]` is what the term t denotes.
-use Rattle.std.specs.Prelude.{◌≡◌, ◌⊎◌, Bool, true, false, ℕ, zero, suc, ◌+◌, ◌*◌, ◌/◌, ◌%◌, ◌^◌, ◌<◌, ◌-◌, eqb, ltb}
+use Rattle.std.specs.Prelude.{◌≡◌, ◌⊎◌, Bool, true, false, ℕ, zero, suc, ◌+◌, ◌*◌, ◌/◌, ◌%◌, ◌^◌, ◌<◌, ◌-◌, eqb, ltb, if◌then◌else◌}
 use Rattle.words.specs.Bits.{bit}
 use Rattle.rules.specs.Kinds.{Place, R, B, Op, COPY, NOT, AND, OR, XOR, ADD, ITE, SLICE, JOIN, SHL, SHR, Rel, ULE, ULT, NE}
 
@@ -11,11 +11,6 @@ Vector = ℕ → ℕ
 -- b is a bit-vector of size m
 abbrev pub OfSize : ℕ → Vector → Type 0
 OfSize m b = (x : ℕ) → x < m → b x < 2
-
-infix 5 if◌then◌else◌
-abbrev pub if◌then◌else◌ : Bool → ℕ → ℕ → ℕ
-if◌then◌else◌ true x y = x
-if◌then◌else◌ false x y = y
 
 -- bv2nat(b) := b(m-1)*2^{m-1} + b(m-2)*2^{m-2} + ⋯ + b(0)*2^0
 unfoldable pub bv2nat : ℕ → Vector → ℕ
