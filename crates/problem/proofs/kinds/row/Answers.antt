@@ -35,9 +35,9 @@ rows =
 right : ℕ → List ℕ → Bool
 right κ xs = eqb (length xs) fields && every (λ c x. eqb x (row_entry (kind_of (suc κ)) c)) 0 xs
 
-row-right : (κ c : ℕ) → κ < 14 → c < fields → get_or (get_or rows κ []) c 0 ≡ row_entry (kind_of (suc κ)) c
+row_right : (κ c : ℕ) → κ < 14 → c < fields → get_or (get_or rows κ []) c 0 ≡ row_entry (kind_of (suc κ)) c
 unfolding rows right kind_of
-row-right κ c l m =
+row_right κ c l m =
     let (e, t) = both (eqb (length (get_or rows κ [])) fields) _ (entries right [] rows tt κ l) in
     let n : c < length (get_or rows κ []) = omega (arith, eqb→eq (length (get_or rows κ [])) fields e) in
     eqb→eq (get_or (get_or rows κ []) c 0) (row_entry (kind_of (suc κ)) c) (entries (λ c x. eqb x (row_entry (kind_of (suc κ)) c)) 0 (get_or rows κ []) t c n)
@@ -45,7 +45,7 @@ row-right κ c l m =
 row_at : (κ c : ℕ) → KindNumber κ → c < fields → get_or (get_or rows (κ - 1) []) c 0 ≡ row_entry (kind_of κ) c
 row_at κ c h m =
     let e : suc (κ - 1) ≡ κ = omega arith in
-    subst (λ x. get_or (get_or rows (κ - 1) []) c 0 ≡ row_entry (kind_of x) c) e (row-right (κ - 1) c (omega arith) m)
+    subst (λ x. get_or (get_or rows (κ - 1) []) c 0 ≡ row_entry (kind_of x) c) e (row_right (κ - 1) c (omega arith) m)
 
 pub returns : goal.returns
 unfolding rows
