@@ -34,8 +34,8 @@
 //! # Stack
 //!
 //! The search of [`Problem::solve`], [`Problem::cause`] and [`advise`] calls itself once for each level of guesses, of which there are at
-//! most 2,048. A stack of one mebibyte was enough on the boards measured, the deepest of which took somewhat more than half of it; Rust's
-//! own default for a thread is two. A stack that is too small ends the process, as with any recursion.
+//! most 2,048. A stack of one mebibyte was enough on the boards measured, the deepest of which took about a fifth of it; Rust's own default
+//! for a thread is two. A stack that is too small ends the process, as with any recursion.
 //!
 //! # Panics
 //!
