@@ -1,7 +1,6 @@
 // The adviser: one block file from standard input, the lines of its report to standard output. `report::program::lines_of` promises every byte of them;
 // here they are only written. After success standard error is empty. After a read error nothing is written to standard output, and one line on standard error
-// says what failed; after a failed write one line there says so, and some of the bytes may have been written. The exit status is 0 in each case: a program of
-// this language has no other.
+// says what failed; after a failed write one line there says so, and some of the bytes may have been written. The exit status is 0 in each case.
 #![tactic(auto)]
 
 ghost use Rattle.advise.specs.Reading.{InputRead};
