@@ -7,8 +7,9 @@ it prints for each edit the fact that rt blames first, and judges nothing.
 The first line of an edit ends with `Refused by FACT.`: the name of a lemma; FUNCTION/GOAL, of what a function owes; or FILE:LEMMA, with the file below proofs/
 or specs/, without its ending. A name alone must not be declared in two files of its crate.
 
-rt keeps no log of an edit, and prints its first error alone, cut off after 160 characters. Where that is not the fact's, the edit is checked once more, in a copy
-of the crates, and all errors are read. An error does not count that only follows from another one, or that only says that a proof no longer fits the code: the
+rt keeps no log of an edit, and prints the first line of its first error alone, cut off after 160 characters. Where that is not the fact's, where it is cut off,
+or where it is of a function's proof, whose other lines may say that the proof only no longer fits the code, the edit is checked once more, in a copy of the
+crates, and all errors are read. An error does not count that only follows from another one, or that only says that a proof no longer fits the code: the
 checker then refuses the proof's text and has not come to the fact. Nor does a limit of the checker count, which is no verdict. That each sign of this is known
 is tried first, on made-up logs.
 """
@@ -25,6 +26,8 @@ from typing import NamedTuple
 
 LOG = "target/gate/proofs.log"
 REFUSED = "refused, as it must be"
+# how much of an error rt shows
+SHOWN = 160
 FOLLOWS = ("was not admitted", "which is not proved")
 # signs that a proof only no longer fits the code: a name, a field or a file is gone; or another goal, or another state of the code, stands where one was
 GONE = (
@@ -168,9 +171,12 @@ def read(path):
 
 
 def first(said, source):
-    """The first error, as rt shows it; None where it shows none that counts."""
-    found = errors(said[len(REFUSED) + 2 :], source) if said.startswith(REFUSED + ": ") else []
-    return found[0] if found and not found[0].follows and not found[0].unfit else None
+    """The first error, as rt shows it; None where it shows none that counts, or may not show all that tells."""
+    if not said.startswith(REFUSED + ": ") or len(said) >= len(REFUSED) + 2 + SHOWN:
+        return None
+    found = errors(said[len(REFUSED) + 2 :], source)
+    inner = found and re.match(r"proofs/.*/", found[0].path)
+    return found[0] if found and not inner and not found[0].follows and not found[0].unfit else None
 
 
 def unrefused(said):
@@ -311,6 +317,9 @@ SAID = (
     (f"{REFUSED}: {ORDER}", True, True),
     (f"{REFUSED}: ./proofs/Order.antt:9:5: error: `less`: it calls `crate::sort`, which is not proved", True, False),
     (f"{REFUSED}: ./proofs/Order.antt:9:5: error: `less`: no such file", True, False),
+    (f"{REFUSED}: {ORDER.replace('i < n', 'i' + ' + 0' * 40 + ' < n')[:SHOWN]}", True, False),
+    (f"{REFUSED}: ./proofs/sort/Answers.antt:9:5: error: `less`: expected type `goal.add-loop`", True, False),
+    (f"{REFUSED}: ./proofs/sort/Answers.antt:9:5: error: `less`: {FALSE}", True, False),
     (REFUSED, True, False),
     (f"{REFUSED} (only because a proof file names what the edit took away): {ORDER}", False, False),
     (f"{REFUSED} (only by a limit of the prover, which gave no verdict): {ORDER}", False, False),
@@ -369,7 +378,7 @@ def judged(edits, log):
             again[edit] = fact
         found[edit] = why
     if again:
-        print(f"refusals: of {len(again)} edits rt shows another error first, so they are checked once more", flush=True)
+        print(f"refusals: of {len(again)} edits rt does not show all that tells, so they are checked once more", flush=True)
     return {**found, **tried_again(again)}
 
 
