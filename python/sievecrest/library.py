@@ -61,7 +61,9 @@ def shared_object():
     archive, shared = folder() / ARCHIVE, folder() / SHARED
     if not ready(archive, shared):
         if not archive.is_file():
-            raise Unavailable(f"{archive} is missing: run `rt lib` in crates/sievecrest, or `./test`, in the repository, or name the library's folder in {FOLDER}")
+            raise Unavailable(
+                f"{archive} is missing: run `rt lib` in crates/sievecrest, or `./test`, in the repository, or name the library's folder in {FOLDER}"
+            )
         link(archive, shared)
     return shared
 

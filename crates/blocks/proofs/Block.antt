@@ -1,5 +1,6 @@
 -- One block as bytes: its length, its sum, its header, what follows it; and a sound block is the block of its own fields.
-use Rattle.std.proofs.Common.{◌≡◌, ℕ, ◌+◌, ◌-◌, ◌*◌, ◌/◌, ◌%◌, ◌<◌, ◌≤◌, ◌≢◌, List, ◌∷◌, ◌++◌, length, drop, sym, refl, ap, ◌∙◌, arith, length-append, drop-cons}
+use Rattle.std.proofs.Common.{◌≡◌, ℕ, ◌+◌, ◌-◌, ◌*◌, ◌/◌, ◌%◌, ◌<◌, ◌≤◌, ◌≢◌, List}
+use Rattle.std.proofs.Common.{◌∷◌, ◌++◌, length, drop, sym, refl, ap, ◌∙◌, arith, length-append, drop-cons}
 use Rattle.lists.specs.Lists.{at, zeros, Under}
 use Rattle.blocks.specs.Bytes.{le}
 use Rattle.blocks.specs.Edition.{Edition}

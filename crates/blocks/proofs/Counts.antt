@@ -1,5 +1,6 @@
 -- How many blocks n records take, k to a block, and how many of them each block holds.
-use Rattle.std.proofs.Common.{◌≡◌, ℕ, zero, suc, ◌+◌, ◌-◌, ◌*◌, ◌/◌, ◌%◌, ◌<◌, ◌≤◌, min, sym, ap, ◌∙◌, mod-eq_of_lt, suc-mul, mul_comm, mul-zero, le-div_iff_mul-le, mul-suc, arith}
+use Rattle.std.proofs.Common.{◌≡◌, ℕ, zero, suc, ◌+◌, ◌-◌, ◌*◌, ◌/◌, ◌%◌, ◌<◌, ◌≤◌}
+use Rattle.std.proofs.Common.{min, sym, ap, ◌∙◌, mod-eq_of_lt, suc-mul, mul_comm, mul-zero, le-div_iff_mul-le, mul-suc, arith}
 use native.Mathlib.Nat.{mul-add-mod_self_left}
 use native.Mathlib.Decide.{dec_lt}
 use Rattle.lists.specs.Lists.{total}

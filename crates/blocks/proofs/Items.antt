@@ -1,5 +1,6 @@
 -- The records of edition 1 as items of eight bytes.
-use Rattle.std.proofs.Common.{◌≡◌, ℕ, ◌+◌, ◌*◌, ◌/◌, ◌%◌, ◌<◌, List, [], ◌∷◌, ◌++◌, length, drop, sym, ap, ◌∙◌, append_assoc, add-zero, arith, drop_of_length-le}
+use Rattle.std.proofs.Common.{◌≡◌, ℕ, ◌+◌, ◌*◌, ◌/◌, ◌%◌, ◌<◌, List, [], ◌∷◌}
+use Rattle.std.proofs.Common.{◌++◌, length, drop, sym, ap, ◌∙◌, append_assoc, add-zero, arith, drop_of_length-le}
 use Rattle.lists.specs.Lists.{at, zeros, flat}
 use Rattle.rules.specs.Tight.{Rule}
 use Rattle.problem.specs.Lent.{width_at, lo_at, hi_at}

@@ -1,5 +1,6 @@
 -- The machine accepts exactly the beginnings of proper files.
-use Rattle.std.proofs.Common.{◌≡◌, ℕ, zero, suc, ◌+◌, ◌-◌, ◌*◌, ◌<◌, ◌≤◌, List, ◌++◌, length, sym, ap, ◌∙◌, subst, add-zero, add-suc, zero-add, arith, length-append}
+use Rattle.std.proofs.Common.{◌≡◌, ℕ, zero, suc, ◌+◌, ◌-◌, ◌*◌, ◌<◌, ◌≤◌, List, ◌++◌}
+use Rattle.std.proofs.Common.{length, sym, ap, ◌∙◌, subst, add-zero, add-suc, zero-add, arith, length-append}
 use native.Mathlib.Decide.{dec_lt}
 use Rattle.blocks.specs.Bytes.{le}
 use Rattle.lists.specs.Lists.{part, Under}

@@ -1,5 +1,6 @@
 -- A block of records, and an end block, as the paper says them, are just the blocks of those bytes.
-use Rattle.std.proofs.Common.{◌≡◌, ℕ, ◌+◌, ◌-◌, ◌*◌, ◌^◌, ◌<◌, ◌≤◌, List, ◌++◌, length, drop, sym, ap, ◌∙◌, subst, arith, length-drop, get_or-drop, take_all, get_or-append-add}
+use Rattle.std.proofs.Common.{◌≡◌, ℕ, ◌+◌, ◌-◌, ◌*◌, ◌^◌, ◌<◌, ◌≤◌, List, ◌++◌, length}
+use Rattle.std.proofs.Common.{drop, sym, ap, ◌∙◌, subst, arith, length-drop, get_or-drop, take_all, get_or-append-add}
 use Rattle.lists.specs.Lists.{at, part, zeros, flat, Under}
 use Rattle.blocks.specs.Bytes.{le, from_le}
 use Rattle.blocks.specs.Edition.{Form, Edition}

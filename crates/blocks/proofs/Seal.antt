@@ -1,5 +1,6 @@
 -- The check of a block: a sealed block is sound, and a sound block is the seal of itself without its check.
-use Rattle.std.proofs.Common.{◌≡◌, ℕ, ◌+◌, ◌-◌, ◌*◌, ◌/◌, ◌%◌, ◌<◌, ◌≤◌, ◌≢◌, List, length, set, ◌∙◌, arith, length-set, get_or-set_other, get_or-set_same, set-set}
+use Rattle.std.proofs.Common.{◌≡◌, ℕ, ◌+◌, ◌-◌, ◌*◌, ◌/◌, ◌%◌, ◌<◌, ◌≤◌, ◌≢◌}
+use Rattle.std.proofs.Common.{List, length, set, ◌∙◌, arith, length-set, get_or-set_other, get_or-set_same, set-set}
 use lib.Seq.{set_comm, set-get_or}
 use Rattle.lists.specs.Lists.{at, Under}
 use Rattle.blocks.specs.Block.{sixteen, sum, Sound}

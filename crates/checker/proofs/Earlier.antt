@@ -59,7 +59,8 @@ module _ (limit : ℕ) (ws bs : List ℕ) (size : Sized ws bs) where
     -- ---- before a demand of rule n
 
     pub before_rule : (d : Demand) (n : ℕ) → phase d ≡ 2 → place d ≡ n → number d ≤ 8 → ((j : ℕ) → j < n → rule_refusal ws bs j ≡ Ok)
-        → (6 < number d → KindNumber (rule_at bs n).kind) → (7 < number d → Fields (word_count ws) (rule_at bs n)) → (e : Demand) → Before e d → Met limit ws bs e
+        → (6 < number d → KindNumber (rule_at bs n).kind) → (7 < number d → Fields (word_count ws) (rule_at bs n))
+        → (e : Demand) → Before e d → Met limit ws bs e
     before_rule d n p q m h k f SIZE b = size
     before_rule d n p q m h k f (WIDTH i) b = λ l. (word_met ws i (words i l)).0
     before_rule d n p q m h k f (TABLE i) b = λ l. (word_met ws i (words i l)).1

@@ -105,7 +105,8 @@ module _ (limit : ℕ) (ws bs : List ℕ) where
     where
       go : (b : Bool) → sized ws bs ≡ b
           → Right limit ws bs
-          ((asks SIZE b then first_of (word_count ws) (word_refusal ws) then first_of (rule_count bs) (rule_refusal ws bs)) then asks LIMIT (leb limit most_guesses))
+          ((asks SIZE b then first_of (word_count ws) (word_refusal ws) then first_of (rule_count bs) (rule_refusal ws bs))
+          then asks LIMIT (leb limit most_guesses))
       go true e = words_right (sized_met ws bs (passed _ e)) (first_of (word_count ws) (word_refusal ws)) refl
       go false e = as_refused SIZE refl (record { unmet = fails (sized ws bs) e (met_sized ws bs); earlier = λ d b. absurd (size_first d b) })
 

@@ -57,7 +57,8 @@ module _ (ws bs : List ℕ) (n p j : ℕ) where
   pub data Judged (list : List ℕ) : Explained → List ℕ → Type 0 where
     not_asked : ¬ AsksOpenBit → Judged list (explained.Refused ASK 0) list
     answered : {r : Explained} {list' : List ℕ} → AsksOpenBit
-        → Explanation (shape (widths_of ws) (rule (rules_of bs) n)) (span (table_of ws) (rule (rules_of bs) n)) (place_of p) j list r list' → Judged list r list'
+        → Explanation (shape (widths_of ws) (rule (rules_of bs) n)) (span (table_of ws) (rule (rules_of bs) n)) (place_of p) j list r list'
+        → Judged list r list'
 
   -- words ws, rules bs and a list were lent; r comes back, and list' stands in the list afterwards
   pub data Explaining (list : List ℕ) : Explained → List ℕ → Type 0 where

@@ -1,5 +1,6 @@
 -- AND, OR, XOR, ADD and ITE: a run from state q means that r is what the kind computes of a and b; the state is the carry of ADD and the s of ITE.
-use Rattle.std.proofs.Common.{◌≡◌, ℕ, suc, ◌+◌, ◌*◌, ◌/◌, ◌%◌, ◌^◌, min, max, Bool, true, false, ◌&&◌, ◌||◌, eqb, ◌↔◌, refl, ap, ◌∙◌, ap₂, pow-suc, arith, lit<, eqb→eq, pow_pos}
+use Rattle.std.proofs.Common.{◌≡◌, ℕ, suc, ◌+◌, ◌*◌, ◌/◌, ◌%◌, ◌^◌, min, max, Bool, true, false}
+use Rattle.std.proofs.Common.{◌&&◌, ◌||◌, eqb, ◌↔◌, refl, ap, ◌∙◌, ap₂, pow-suc, arith, lit<, eqb→eq, pow_pos}
 use native.Mathlib.Nat.{mod-one}
 use lib.Bits.{bit_and, bit_or, bit_xor, differ, and_step, or_step, xor_step}
 use lib.Arith.{mod-mul}

@@ -28,7 +28,8 @@ module _ (k m x n : ℕ) where
   into_low j l = omega (arith, bit_xor_lem j x (shl_by d k), shl_low d k j l, bit_lt x j)
 
   into_at : (i : ℕ) → i < m → k + i < 64 → bit (into_part k m x n) (k + i) ≡ bit n i
-  into_at i l h = omega (arith, bit_xor_lem (k + i) x (shl_by d k), shl_at d k i h, bit_xor_lem i (bits_from k m x) n, part_at k m x i l, bit_lt x (k + i), bit_lt n i)
+  into_at i l h =
+      omega (arith, bit_xor_lem (k + i) x (shl_by d k), shl_at d k i h, bit_xor_lem i (bits_from k m x) n, part_at k m x i l, bit_lt x (k + i), bit_lt n i)
 
   into_high : (i : ℕ) → m ≤ i → bit n i ≡ 0 → bit (into_part k m x n) (k + i) ≡ bit x (k + i)
   into_high i l z = go (dec_lt (k + i) 64)

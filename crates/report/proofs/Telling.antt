@@ -30,7 +30,8 @@ sat_same : (g : ℕ) (widths u v : List ℕ) → ((i : ℕ) → i < length width
 unfolding text_of word_lines
 sat_same g widths u v q =
     ap (λ t. line SAT (decimal g ∷ []) ++ t)
-    (flat_same (length widths) (λ i. word_line i (at widths i) (at u i)) (λ i. word_line i (at widths i) (at v i)) (λ j h. ap (word_line j (at widths j)) (q j h)))
+    (flat_same (length widths) (λ i. word_line i (at widths i) (at u i)) (λ i. word_line i (at widths i) (at v i))
+    (λ j h. ap (word_line j (at widths j)) (q j h)))
 
 -- the words of a problem without refusals can be printed
 pub valued : {limit : ℕ} {ws bs l k : List ℕ} (m : List ℕ) → length m ≡ 32 → ToReport limit ws bs l k → Valued ws m

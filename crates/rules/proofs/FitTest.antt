@@ -74,7 +74,8 @@ module _ (σ : Shape) (t : Span) where
       let (b, h₃) = both (keepsb f B) _ h₂ in
       let (s, h₄) = both (keepsb f S) _ h₃ in
       let k : (p : Place) → Uses σ p → (t.lo p ⊑ f p) × (f p ⊑ t.hi p) =
-      λ p. elim p as (λ q. Uses σ q → (t.lo q ⊑ f q) × (f q ⊑ t.hi q)) [ R ↦ keepsb_sound f R r | A ↦ keepsb_sound f A a | B ↦ keepsb_sound f B b | S ↦ keepsb_sound f S s ] in
+      λ p. elim p as (λ q. Uses σ q → (t.lo q ⊑ f q) × (f q ⊑ t.hi q))
+      [ R ↦ keepsb_sound f R r | A ↦ keepsb_sound f A a | B ↦ keepsb_sound f B b | S ↦ keepsb_sound f S s ] in
       record { from = λ p u. (k p u).0; to = λ p u. (k p u).1; holds = holdsb_sound σ.kind _ _ f h₄ }
 
   pub fitb_complete : (f : Place → ℕ) → Fit σ t f → T (fitb f)

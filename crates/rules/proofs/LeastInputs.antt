@@ -82,7 +82,8 @@ module _ (ρ : Rule) (i : ℕ) where
           yes (record {
             computing = rw e tt;
             result = x;
-            below = λ p. elim p as (λ q. T (uses (kind_of ρ.kind) q) → (q ≡ R → ⊥) → word ρ q < i) [ R ↦ λ u d. absurd (d refl) | A ↦ λ u d. a u | B ↦ λ u d. b u | S ↦ λ u d. s u ];
+            below = λ p. elim p as (λ q. T (uses (kind_of ρ.kind) q) → (q ≡ R → ⊥) → word ρ q < i)
+                [ R ↦ λ u d. absurd (d refl) | A ↦ λ u d. a u | B ↦ λ u d. b u | S ↦ λ u d. s u ];
           })
 
 module _ (rs : List Rule) (t : Table) (whole : Inside t t) where

@@ -11,7 +11,8 @@ use Rattle.lists.proofs.Snoc.{length_more, at_low, each_more, triples_more}
 use Rattle.problem.proofs.Readings.{words_below}
 use Rattle.scripts.proofs.ProperDraft.{ProperDraft, holds_same}
 
-pub word_carried : {p : Draft} {v : List ℕ} (w lo hi x : ℕ) → ProperDraft p → SettingsOf p v → lo ⊑ x → x ⊑ hi → SettingsOf (more_word w lo hi p) (v ++ (x ∷ []))
+pub word_carried : {p : Draft} {v : List ℕ} (w lo hi x : ℕ) → ProperDraft p → SettingsOf p v → lo ⊑ x → x ⊑ hi
+    → SettingsOf (more_word w lo hi p) (v ++ (x ∷ []))
 unfolding more_word
 word_carried {p} {v} w lo hi x h s a b = record {
   keeps = record {

@@ -74,7 +74,8 @@ module _ (p : Draft) where
   pub rules_back : rules_of (stored_rules p) ≡ p.rules
   rules_back =
       ext_get_or none_rule (rules_of (stored_rules p)) p.rules (long ∙ rule_count_lem)
-      (λ n l. series_at none_rule (rule_count (stored_rules p)) n (rule_at (stored_rules p)) (rw long at l) ∙ rule_back n (omega (arith, rule_count_lem, rw long at l)))
+      (λ n l. series_at none_rule (rule_count (stored_rules p)) n (rule_at (stored_rules p)) (rw long at l)
+      ∙ rule_back n (omega (arith, rule_count_lem, rw long at l)))
     where
       long : length (rules_of (stored_rules p)) ≡ rule_count (stored_rules p)
       long = length_series (rule_count (stored_rules p)) (rule_at (stored_rules p))

@@ -93,7 +93,8 @@ module _ (s : Script) (ok : WellFormed s) where
 
   -- values that satisfy the script begin exactly one settings
   pub exactly_one_settings : (vs : List ℕ) → Satisfies s vs
-      → (v : List ℕ) × SettingsOf (problem_made s) v × (declared_in s v ≡ vs) × ((v' : List ℕ) → SettingsOf (problem_made s) v' → declared_in s v' ≡ vs → v' ≡ v)
+      → (v : List ℕ) × SettingsOf (problem_made s) v × (declared_in s v ≡ vs)
+      × ((v' : List ℕ) → SettingsOf (problem_made s) v' → declared_in s v' ≡ vs → v' ≡ v)
   exactly_one_settings vs h =
       let (v, k, e) = satisfied_settings vs h in
       (v, k, e, λ v' k' e'. one_settings v' v k' k (e' ∙ sym e))

@@ -45,7 +45,8 @@ least_once s us vs x y = go (y.before us x.satisfies) (x.before vs y.satisfies)
 
 module _ (s : Script) (ok : WellFormed s) where
   -- of two settings the earlier has the earlier declared words
-  declared_order : (v v' : List ℕ) → SettingsOf (problem_made s) v → SettingsOf (problem_made s) v' → Earlier v v' → Earlier (declared_in s v) (declared_in s v')
+  declared_order : (v v' : List ℕ) → SettingsOf (problem_made s) v → SettingsOf (problem_made s) v' → Earlier v v'
+      → Earlier (declared_in s v) (declared_in s v')
   declared_order v v' h h' e = go (dec_lt e.word (length s.sizes))
     where
       go : Dec (e.word < length s.sizes) → Earlier (declared_in s v) (declared_in s v')

@@ -24,7 +24,8 @@ module _ (s : Script) (ok : WellFormed s) where
 
   -- the search of what is lent is that of the script's problem
   pub stored_search : (limit : ℕ) (o : Outcome)
-      → Search (Tight (widths_of (stored_words (problem_made s))) (rules_of (stored_rules (problem_made s)))) limit (table_of (stored_words (problem_made s))) 0 o
+      → Search (Tight (widths_of (stored_words (problem_made s))) (rules_of (stored_rules (problem_made s)))) limit
+      (table_of (stored_words (problem_made s))) 0 o
       ↔ ScriptSearch s limit o
   stored_search limit o =
       rw (widths_back (problem_made s), table_back (problem_made s) (problem_draft s ok), rules_back (problem_made s)) (λ x. x, λ x. x)

@@ -73,7 +73,8 @@ stepped_lost c = record {
 
 pub record Passing (ws bs : List ℕ) (l m : List ℕ) (changed : Bool) (j : ℕ) : Type 0 where
   pub step :
-      Stepped (TightBelow (widths_of ws) bs l j) (word_count ws) (table_in (word_count ws) l) (table_in (word_count ws) m) (record { fit = true; changed = changed })
+      Stepped (TightBelow (widths_of ws) bs l j) (word_count ws) (table_in (word_count ws) l) (table_in (word_count ws) m)
+      (record { fit = true; changed = changed })
   pub outside : Outside (word_count ws) l m
 
 module _ {ws bs l : List ℕ} (ready : Ready ws bs l) where

@@ -73,7 +73,8 @@ module _ (bs f : List ℕ) (before : ℕ) where
       blocks_turn 2 edition1.rules fair1.rules before (rule_count bs) (rule_record bs) (fair1.rules.sized bs) f (512 * before) g ys q
       (512 * (before + q)) (512 * (before + q) + 512) c (before + q) (omega arith) refl inside pc refl pg py
 
-  pub rules_end : (g : List ℕ) (q t : ℕ) → q ≤ t → t ≤ q → g ≡ put f (512 * before) (rules_up_to bs before q) → g ≡ put f (512 * before) (rules_up_to bs before t)
+  pub rules_end : (g : List ℕ) (q t : ℕ) → q ≤ t → t ≤ q → g ≡ put f (512 * before) (rules_up_to bs before q)
+      → g ≡ put f (512 * before) (rules_up_to bs before t)
   rules_end = blocks_end 2 edition1.rules fair1.rules before (rule_count bs) (rule_record bs) (fair1.rules.sized bs) f (512 * before)
 
 -- words blocks, rules blocks and the end block, one behind the other

@@ -63,6 +63,6 @@ returns-in-11 c =
 
 pub returns-in_default : goal.returns-in_default
 returns-in_default c =
+    let d = c.in_default.in_default-own.rest in
     told c.args.kind c.args.k c.args.w c.args.t c.requires.1 _
-    (c.columns.ensures
-    ∙ columns_told c.args.kind c.args.k c.args.w c.args.t c.requires.0 c.in_default.in_default-own.rest.0.0.0.0.0.1 c.in_default.in_default-own.rest.0.0.0.0.1 c.in_default.in_default-own.rest.0.0.0.1 c.in_default.in_default-own.rest.0.0.1 c.in_default.in_default-own.rest.0.1 c.in_default.in_default-own.rest.1)
+    (c.columns.ensures ∙ columns_told c.args.kind c.args.k c.args.w c.args.t c.requires.0 d.0.0.0.0.0.1 d.0.0.0.0.1 d.0.0.0.1 d.0.0.1 d.0.1 d.1)

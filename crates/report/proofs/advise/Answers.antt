@@ -43,9 +43,13 @@ tell-requires c =
 pub returns-in-Refused : goal.returns-in-Refused
 unfolding zeros
 returns-in-Refused c =
-    unread_lines c.read.ensures c.in-Refused.is (record { bytes = omega (arith, c.if-out-lt-MOST.false); memory = omega (arith, c.if-work-lt-WORK.false) }) c.put_refused.ensures c.clear.ensures
+    unread_lines c.read.ensures c.in-Refused.is
+    (record { bytes = omega (arith, c.if-out-lt-MOST.false); memory = omega (arith, c.if-work-lt-WORK.false) })
+    c.put_refused.ensures c.clear.ensures
 
 pub returns-in-Ok : goal.returns-in-Ok
 unfolding zeros
 returns-in-Ok c =
-    told_lines c.read.ensures c.in-Ok.is (record { bytes = omega (arith, c.if-out-lt-MOST.false); memory = omega (arith, c.if-work-lt-WORK.false) }) c.tell.ensures
+    told_lines c.read.ensures c.in-Ok.is
+    (record { bytes = omega (arith, c.if-out-lt-MOST.false); memory = omega (arith, c.if-work-lt-WORK.false) })
+    c.tell.ensures

@@ -17,8 +17,10 @@ pub bounds-work-j : goal.bounds-work-j
 bounds-work-j c = omega (arith, c.requires.1.room, c.loop-j.invariant.0.outside.size)
 
 pub apply-x-requires : goal.apply-x-requires
-apply-x-requires c =
-    (still_ready c.requires.0 c.loop-j.invariant.0 c.requires.1 c.loop-j-test.true, next_listed c.requires.0 c.loop-j.invariant.0 c.requires.1 c.loop-j-test.true)
+apply-x-requires c = (
+  still_ready c.requires.0 c.loop-j.invariant.0 c.requires.1 c.loop-j-test.true,
+  next_listed c.requires.0 c.loop-j.invariant.0 c.requires.1 c.loop-j-test.true,
+)
 
 pub shape_of-work-then-not-x : goal.shape_of-work-then-not-x
 shape_of-work-then-not-x c =

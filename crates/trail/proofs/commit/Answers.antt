@@ -30,8 +30,10 @@ pub loop-i-smaller : goal.loop-i-smaller
 loop-i-smaller c = omega arith
 
 pub loop-i-preserved : goal.loop-i-preserved
-loop-i-preserved c =
-    (passing_step c.loop-i.invariant.0 (omega (arith, c.loop-i-test.true, c.requires.0)) c.keep-entries.ensures c.keep-entries-in-loop-i.ensures, omega (arith, c.loop-i-test.true))
+loop-i-preserved c = (
+  passing_step c.loop-i.invariant.0 (omega (arith, c.loop-i-test.true, c.requires.0)) c.keep-entries.ensures c.keep-entries-in-loop-i.ensures,
+  omega (arith, c.loop-i-test.true),
+)
 
 pub returns : goal.returns
 returns c =

@@ -44,8 +44,10 @@ loop-j-smaller c = omega arith
 
 pub loop-j-preserved : goal.loop-j-preserved
 loop-j-preserved c =
-    let e : c.loop-j.j ≡ c.loop-j.j - 1 + 1 = omega (arith, c.loop-j-test.true) in
-    (rising_step (rw e at c.loop-j.invariant.0) (omega (arith, c.loop-j-test.true, c.requires.0, c.requires.1, c.loop-j.invariant.1)), omega (arith, c.loop-j.invariant.1))
+    let e : c.loop-j.j ≡ c.loop-j.j - 1 + 1 = omega (arith, c.loop-j-test.true) in (
+      rising_step (rw e at c.loop-j.invariant.0) (omega (arith, c.loop-j-test.true, c.requires.0, c.requires.1, c.loop-j.invariant.1)),
+      omega (arith, c.loop-j.invariant.1),
+    )
 
 pub shape_of-work : goal.shape_of-work
 shape_of-work c = c.loop-j.invariant.0.size

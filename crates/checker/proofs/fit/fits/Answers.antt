@@ -24,4 +24,5 @@ returns-in-4 c = rw c.in-4.is c.is_sum.ensures
 
 pub returns-in_default : goal.returns-in_default
 returns-in_default c =
-    rw (last_class c.args.class c.in_default.in_default-own.rest.0.0.0.0.1 c.in_default.in_default-own.rest.0.0.0.1 c.in_default.in_default-own.rest.0.0.1 c.in_default.in_default-own.rest.0.1 c.in_default.in_default-own.rest.1)
+    let d = c.in_default.in_default-own.rest in
+    rw (last_class c.args.class d.0.0.0.0.1 d.0.0.0.1 d.0.0.1 d.0.1 d.1)

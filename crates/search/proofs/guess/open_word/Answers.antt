@@ -36,7 +36,11 @@ bounds-work-i-in-loop-i c = omega arith
 
 pub returns-then-open_bits-gt0 : goal.returns-then-open_bits-gt0
 returns-then-open_bits-gt0 c =
-    record { most = c.loop-i.invariant.1; same = c.loop-i.invariant.0; differs = λ h e. omega (arith, c.if-open_bits-gt0.true, c.open_bits.ensures, none_open _ _ e) }
+    record {
+      most = c.loop-i.invariant.1;
+      same = c.loop-i.invariant.0;
+      differs = λ h e. omega (arith, c.if-open_bits-gt0.true, c.open_bits.ensures, none_open _ _ e);
+    }
 
 pub overflow_add-i-in-loop-i : goal.overflow_add-i-in-loop-i
 overflow_add-i-in-loop-i c = omega arith
