@@ -96,17 +96,25 @@ def demand(name):
     return rf"^number \(?{name}\b[^=]*= (\d+)$"
 
 
+def variant(name):
+    """A name as the variants of enums are written."""
+    return "".join(part.capitalize() for part in name.split("_"))
+
+
+def refused(name):
+    return rf"^number_of \(?{variant(name)}\b[^=]*= (\d+)$"
+
+
 def places():
     """Where each number stands in the crates: its name, a file or several, and the text around it."""
     for name in ANSWERS:
-        yield name, CODE, constant(name)
+        yield name, "crates/packing/src/lib.rt", rf"^    {variant(name)} = (\d+),$"
         yield name, SPECS, definition(name)
     for name in REFUSALS:
-        yield "REFUSED_" + name, CODE, constant(name)
+        yield "REFUSED_" + name, "crates/checker/src/refusal.rt", rf"^            Refusal::{variant(name)}(?:\(_\))? => (\d+),$"
+        yield "REFUSED_" + name, SPECS, refused(name)
     for name in "SIZE WIDTH TABLE KIND FIELD FIT LIMIT".split():
         yield "REFUSED_" + name, SPECS, demand(name)
-    for name in "CHECK LAYOUT ASK".split():
-        yield "REFUSED_" + name, SPECS, definition(name)
     for name, code, spec in (
         ("WORD_NUMBERS", "STRIDE", "stride"),
         ("RULE_BYTES", "FIELDS", "fields"),
@@ -136,7 +144,7 @@ def listed(tally, path, pattern):
     found = glob.glob(path)
     tally.same(f"there is one {path}", len(found), 1)
     for file in found:
-        tally.same(f"kinds of {file}", re.findall(pattern, text_of(file), re.M), KINDS)
+        tally.same(f"kinds of {file}", [x.upper() for x in re.findall(pattern, text_of(file), re.M)], KINDS)
 
 
 def number_at(tally, name, path, pattern):
@@ -173,9 +181,10 @@ def in_crates(tally):
         else:
             wanted[name] = number
     listed(tally, "crates/*/specs/Kinds.antt", r"(?:op|rel) ([A-Z]+) ∷")
-    listed(tally, "crates/*/src/kinds.rt", r"^    \[[\d, ]+\], // ([A-Z]+)$")
+    listed(tally, "crates/*/src/kinds.rt", r"^    Row\(.*\), // (\w+)$")
     for i, kind in enumerate(KINDS, 1):
-        tally.same(f"{kind} of crates/problem/src/kinds.rt", number_at(tally, kind, "crates/problem/src/kinds.rt", constant(kind)), i)
+        number = number_at(tally, kind, "crates/problem/src/kinds.rt", rf"^            (\d+) => Ok\(Kind::{variant(kind)}\),$")
+        tally.same(f"{kind} of crates/problem/src/kinds.rt", number, i)
         wanted["KIND_" + kind] = i
     wanted.update(shifts(tally))
     tally.same("advise asks for the work memory of cause", "work.len() < cause::WORK " in text_of("crates/report/src/lib.rt"), True)

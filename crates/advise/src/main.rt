@@ -6,30 +6,21 @@
 ghost use Rattle.advise.specs.Reading.{InputRead};
 
 use report::program::lines_of;
+use std::io;
 use std::io::{Error, Read};
 
-// How much of the input was read, or why reading failed.
-#[derive(Drop)]
-enum Input {
-    Bytes(usize),
-    Failed(Error),
-}
-
-// Reads until the input ends or there is no room. Each read moves a byte or more, or is the last one, so the turns always do.
-fn read_input<R: Read>(input: &mut R, file: &mut [u8]) -> Input
+// Reads until the input ends or there is no room: how much was read. Each read moves a byte or more, or is the last one, so the turns always do.
+fn read_input<R: Read>(input: &mut R, file: &mut [u8]) -> io::Result<usize>
     ensures { InputRead result file.new }
 {
     let mut at = 0;
-    let mut turns = file.len();
-    while 0 < turns {
-        match input.read(&mut file[at..]) {
-            Err(error) => return Input::Failed(error),
-            Ok(0) => return Input::Bytes(at),
-            Ok(n) => at += n,
+    for _ in 0..file.len() {
+        match input.read(&mut file[at..])? {
+            0 => break,
+            n => at += n,
         }
-        turns -= 1;
     }
-    Input::Bytes(at)
+    Ok(at)
 }
 
 // One line on standard error: what failed, and why in the system's words, without the number that they end with.
@@ -50,8 +41,8 @@ fn main(rt: HostRuntime) {
     let mut file = [0; 3585];
     let mut input = rt.stdin();
     match read_input(&mut input, &mut file) {
-        Input::Failed(error) => fail(&rt, "standard input", &error),
-        Input::Bytes(n) => {
+        Err(error) => fail(&rt, "standard input", &error),
+        Ok(n) => {
             let mut out = [0; 2304];
             let mut work = [0; 5120];
             if let Err(error) = rt.write_all(lines_of(&file[..n], &mut out, &mut work)) {

@@ -1,8 +1,9 @@
 -- Case A: the file of no words, no rules and limit 0 is one block.
 use Rattle.std.proofs.Common.{◌≡◌, ℕ, ◌≤◌, List, [], ◌∷◌, length, sym, refl, ap, arith}
+use Rattle.std.specs.Prelude.{Result, Ok}
+use Rattle.checker.specs.declared.refusal.Refusal.{Refusal}
 use Rattle.checker.specs.Tests.{sized}
 use Rattle.checker.specs.Refusal.{first_of, refusal, refusal_with}
-use Rattle.blocks.specs.declared.Written.{Written}
 use Rattle.blocks.specs.Bytes.{le}
 use Rattle.lists.specs.Lists.{put, zeros, flat, total}
 use Rattle.blocks.specs.Edition.{edition1}
@@ -16,8 +17,8 @@ unfolding encode file_of blocks_of blocks_for flat block headed seal sum total l
 case_A = refl
 
 -- and so it is written, wherever there is room
-pub case_A_written : {f g : List ℕ} {r : Written} → 512 ≤ length f → Writes edition1 0 [] [] f g r
-    → (r ≡ Written.Ok 512) × (g ≡ put f 0 (3 ∷ 1 ∷ 0 ∷ 0 ∷ 0 ∷ 0 ∷ 252 ∷ 254 ∷ zeros 504))
+pub case_A_written : {f g : List ℕ} {r : Result ℕ Refusal} → 512 ≤ length f → Writes edition1 0 [] [] f g r
+    → (r ≡ Ok 512) × (g ≡ put f 0 (3 ∷ 1 ∷ 0 ∷ 0 ∷ 0 ∷ 0 ∷ 252 ∷ 254 ∷ zeros 504))
 unfolding refusal_with refusal first_of sized zeros
 case_A_written {f} h w =
     let e = case_A in

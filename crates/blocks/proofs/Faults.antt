@@ -1,6 +1,8 @@
 -- A file has at most one fault, and a proper file has none.
-use Rattle.std.proofs.Common.{◌≡◌, ℕ, suc, ◌+◌, ◌*◌, ◌/◌, ◌<◌, ◌≤◌, List, length, refl, subst, arith}
+use Rattle.std.proofs.Common.{◌≡◌, ℕ, suc, ◌+◌, ◌*◌, ◌/◌, ◌<◌, ◌≤◌, List, length, refl, ap, subst, arith}
 use native.Mathlib.Decide.{dec_lt}
+use Rattle.checker.specs.declared.refusal.Refusal.{Refusal}
+use Rattle.checker.specs.declared.refusal.Refusal.TheVariants.{Check, Layout}
 use Rattle.blocks.specs.Edition.{Edition}
 use Rattle.blocks.specs.Block.{Sound, EndBlock}
 use Rattle.blocks.specs.File.{block_at, ProperFile, Begins, Whole, Fault, check, layout, last}
@@ -44,8 +46,8 @@ module _ {E : Edition} (fair : Fair E) {f : List ℕ} where
   no_edge : {i k : ℕ} → k ≡ length f / 512 → Begins E f k → Edge E f i → ⊥
   no_edge {i} {k} e b a = a.breaks (begins_less (omega (arith, a.inside)) b)
 
-  pub fault_once : {n i n' i' : ℕ} → Fault E f n i → Fault E f n' i' → (n ≡ n') × (i ≡ i')
-  fault_once (check h b s) (check h' b' s') = (refl, edge_once (unsound_edge h b s) (unsound_edge h' b' s'))
+  pub fault_once : {r s : Refusal} → Fault E f r → Fault E f s → r ≡ s
+  fault_once (check h b s) (check h' b' s') = ap (λ i. Check i) (edge_once (unsound_edge h b s) (unsound_edge h' b' s'))
   fault_once (check h b s) (layout h' b' s' n') =
       let e = edge_once (unsound_edge h b s) (record { inside = h'; begins = b'; breaks = n' }) in
       absurd (s (rw e s'))
@@ -54,11 +56,11 @@ module _ {E : Edition} (fair : Fair E) {f : List ℕ} where
       let e = edge_once (record { inside = h; begins = b; breaks = n }) (unsound_edge h' b' s') in
       absurd (s' (rw e at s))
   fault_once (layout h b s n) (layout h' b' s' n') =
-      (refl, edge_once (record { inside = h; begins = b; breaks = n }) (record { inside = h'; begins = b'; breaks = n' }))
+      ap (λ i. Layout i) (edge_once (record { inside = h; begins = b; breaks = n }) (record { inside = h'; begins = b'; breaks = n' }))
   fault_once (layout h b s n) (last h' b' n') = absurd (no_edge h' b' (record { inside = h; begins = b; breaks = n }))
   fault_once (last h b n) (check h' b' s') = absurd (no_edge h b (unsound_edge h' b' s'))
   fault_once (last h b n) (layout h' b' s' n') = absurd (no_edge h b (record { inside = h'; begins = b'; breaks = n' }))
-  fault_once (last h b n) (last h' b' n') = (refl, omega arith)
+  fault_once (last {i = i} h b n) (last {i = j} h' b' n') = let e : i ≡ j = omega arith in ap (λ i. Layout i) e
 
   -- ---- proper files
 
@@ -68,7 +70,7 @@ module _ {E : Edition} (fair : Fair E) {f : List ℕ} where
   pub proper_whole : {n m l : ℕ} → ProperFile E f n m l → Whole E f
   proper_whole a = record { whole = omega (arith, a.long); some = omega (arith, a.long); most = omega (arith, a.long, a.blocks) }
 
-  pub proper_faultless : {n m l k i : ℕ} → ProperFile E f n m l → Fault E f k i → ⊥
+  pub proper_faultless : {n m l : ℕ} {r : Refusal} → ProperFile E f n m l → Fault E f r → ⊥
   proper_faultless a (check h b s) = no_edge (omega (arith, a.long)) (all_begins a) (unsound_edge h b s)
   proper_faultless a (layout h b s n) = no_edge (omega (arith, a.long)) (all_begins a) (record { inside = h; begins = b; breaks = n })
   proper_faultless {l = l} a (last {i = i} h b n) =

@@ -2,7 +2,7 @@
 use Rattle.std.proofs.Common.{◌≡◌, ℕ, ◌*◌, ◌<◌, List, arith}
 use native.Mathlib.Decide.{dec_lt}
 use lib.ListN.{get_or-eq_default}
-use Rattle.checker.specs.declared.Checked.TheVariants.{Ok}
+use Rattle.std.specs.Prelude.{Ok}
 use Rattle.problem.specs.Lent.{word_count, width_at}
 use Rattle.checker.specs.Refusal.{refusal_with}
 use Rattle.checker.specs.Promise.{Fine}
@@ -11,7 +11,7 @@ use Rattle.problem.proofs.Lents.{width_at_lem}
 use Rattle.checker.proofs.Right.{ok_fine}
 use Rattle.blocks.specs.Written.{Storable, Slices}
 
-pub passed : {limit : ℕ} {ws bs : List ℕ} → Slices ws bs → refusal_with limit ws bs ≡ Ok → Storable limit ws bs
+pub passed : {limit : ℕ} {ws bs : List ℕ} → Slices ws bs → refusal_with limit ws bs ≡ Ok tt → Storable limit ws bs
 passed {limit} {ws} {bs} u e = from (ok_fine limit ws bs e)
   where
     width : Fine limit ws bs → (i : ℕ) → Dec (i < word_count ws) → width_at ws i < 256

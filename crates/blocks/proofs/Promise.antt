@@ -1,11 +1,11 @@
 -- Two results that a promise allows are equal; and a refusal to write is that of the law for all calls.
 use Rattle.std.proofs.Common.{◌≡◌, ℕ, List, length, sym, refl, ◌∙◌, arith}
-use Rattle.checker.specs.declared.Checked.{Checked}
+use Rattle.std.specs.Prelude.{Result, Ok, Err}
+use Rattle.checker.specs.declared.refusal.Refusal.{Refusal}
 use Rattle.checker.specs.Refusal.{refusal_with, with_room}
 use Rattle.checker.proofs.Rooms.{first_short, roomy}
 use Rattle.checker.proofs.Firsts.{refused_not_ok}
-use Rattle.blocks.specs.declared.Reading.{Reading}
-use Rattle.blocks.specs.declared.Written.{Written}
+use Rattle.blocks.specs.declared.Problem.{Problem}
 use Rattle.blocks.specs.Edition.{edition1}
 use Rattle.blocks.specs.File.{Whole, Fault}
 use Rattle.blocks.specs.Written.{IsFile, encode}
@@ -18,17 +18,17 @@ module _ {limit : ℕ} {ws bs f : List ℕ} (is : IsFile edition1 limit ws bs f)
   pub file_whole : Whole edition1 f
   file_whole = proper_whole fair1 (file_proper is)
 
-  pub file_faultless : {n i : ℕ} → Fault edition1 f n i → ⊥
+  pub file_faultless : {r : Refusal} → Fault edition1 f r → ⊥
   file_faultless x = proper_faultless fair1 (file_proper is) x
 
-pub read_once : {f a b y z y' z' : List ℕ} {r s : Reading} → Reads edition1 f a b y z r → Reads edition1 f a b y' z' s
+pub read_once : {f a b y z y' z' : List ℕ} {r s : Result Problem Refusal} → Reads edition1 f a b y z r → Reads edition1 f a b y' z' s
     → (r ≡ s) × (y ≡ y') × (z ≡ z')
 read_once (Reads.size n p q) (Reads.size n' p' q') = (refl, p ∙ sym p', q ∙ sym q')
 read_once (Reads.size n p q) (Reads.fault r w x p' q') = absurd (n (r, w))
 read_once (Reads.size n p q) (Reads.refused r is j p' q') = absurd (n (r, file_whole is))
 read_once (Reads.size n p q) (Reads.ok r is j e p' q') = absurd (n (r, file_whole is))
 read_once (Reads.fault r w x p q) (Reads.size n p' q') = absurd (n (r, w))
-read_once (Reads.fault r w x p q) (Reads.fault r' w' x' p' q') = let (k, i) = fault_once fair1 x x' in (cc, p ∙ sym p', q ∙ sym q')
+read_once (Reads.fault r w x p q) (Reads.fault r' w' x' p' q') = let e = fault_once fair1 x x' in (cc, p ∙ sym p', q ∙ sym q')
 read_once (Reads.fault r w x p q) (Reads.refused r' is j p' q') = absurd (file_faultless is x)
 read_once (Reads.fault r w x p q) (Reads.ok r' is j e p' q') = absurd (file_faultless is x)
 read_once (Reads.refused r is j p q) (Reads.size n p' q') = absurd (n (r, file_whole is))
@@ -44,7 +44,7 @@ read_once (Reads.ok r is j e p q) (Reads.ok r' is' j' e' p' q') =
     let (l, w, b) = one_problem is is' in
     (cc, cc, cc)
 
-pub write_once : {limit : ℕ} {ws bs f g g' : List ℕ} {r s : Written} → Writes edition1 limit ws bs f g r → Writes edition1 limit ws bs f g' s
+pub write_once : {limit : ℕ} {ws bs f g g' : List ℕ} {r s : Result ℕ Refusal} → Writes edition1 limit ws bs f g r → Writes edition1 limit ws bs f g' s
     → (r ≡ s) × (g ≡ g')
 write_once (Writes.size n p) (Writes.size n' p') = (refl, p ∙ sym p')
 write_once (Writes.size n p) (Writes.refused r j p') = absurd (n r)
@@ -59,11 +59,11 @@ write_once (Writes.ok r j k p) (Writes.ok r' j' k' p') = (cc, p ∙ sym p')
 -- ---- writing by the law of all calls that are lent a problem: too short, then the first refusal, else given
 
 module _ {limit : ℕ} {ws bs f g : List ℕ} where
-  pub write_refusal : {n i : ℕ} → Writes edition1 limit ws bs f g (Written.Refused n i)
-      → with_room (length (encode edition1 limit ws bs)) (length f) 0 0 (refusal_with limit ws bs) ≡ Checked.Refused n i
+  pub write_refusal : {r : Refusal} → Writes edition1 limit ws bs f g (Err r)
+      → with_room (length (encode edition1 limit ws bs)) (length f) 0 0 (refusal_with limit ws bs) ≡ Err r
   write_refusal (Writes.size s p) = first_short (length (encode edition1 limit ws bs)) (length f) 0 0 (refusal_with limit ws bs) (omega arith)
   write_refusal (Writes.refused r j p) = roomy (length (encode edition1 limit ws bs)) (length f) 0 0 (refusal_with limit ws bs) r (omega arith) ∙ j
 
-  pub write_given : {k : ℕ} → Writes edition1 limit ws bs f g (Written.Ok k)
-      → with_room (length (encode edition1 limit ws bs)) (length f) 0 0 (refusal_with limit ws bs) ≡ Checked.Ok
+  pub write_given : {k : ℕ} → Writes edition1 limit ws bs f g (Ok k)
+      → with_room (length (encode edition1 limit ws bs)) (length f) 0 0 (refusal_with limit ws bs) ≡ Ok tt
   write_given (Writes.ok r j k p) = roomy (length (encode edition1 limit ws bs)) (length f) 0 0 (refusal_with limit ws bs) r (omega arith) ∙ j

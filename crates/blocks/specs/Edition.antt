@@ -1,8 +1,7 @@
 -- To be believed: what an edition of block files fixes: its number, the form of its records, how many blocks a file may have, and what refuses a problem.
 -- Everything else in this crate holds of any edition whose records fit their blocks.
 use Rattle.std.specs.Prelude.{ℕ, List}
-use Rattle.checker.specs.declared.Checked.{Checked}
-use Rattle.checker.specs.Refusal.{refusal_with}
+use Rattle.checker.specs.Refusal.{Checked, refusal_with}
 use Rattle.blocks.specs.Records.{word_record, rule_record}
 
 -- the records of one kind of block

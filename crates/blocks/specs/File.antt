@@ -1,6 +1,8 @@
 -- To be believed: the order of blocks: a proper file, how files begin, and the first block at fault.
 use Rattle.std.specs.Prelude.{◌≡◌, ℕ, suc, ◌+◌, ◌*◌, ◌/◌, ◌%◌, ◌<◌, ◌≤◌, List, length}
 use Rattle.rules.specs.ProperProblem.{most_words, most_rules}
+use Rattle.checker.specs.declared.refusal.Refusal.{Refusal}
+use Rattle.checker.specs.declared.refusal.Refusal.TheVariants.{Check, Layout}
 use Rattle.lists.specs.Lists.{part, total, Under}
 use Rattle.blocks.specs.Edition.{Form, Edition}
 use Rattle.blocks.specs.Block.{sixteen, Sound, RecordBlock, EndBlock}
@@ -12,13 +14,6 @@ block_at f i = part f (512 * i) 512
 -- the record count that block i gives
 abbrev pub count_at : List ℕ → ℕ → ℕ
 count_at f i = sixteen (block_at f i) 2
-
--- the numbers of the refusals of a file's blocks
-abbrev pub CHECK : ℕ
-CHECK = 2
-
-abbrev pub LAYOUT : ℕ
-LAYOUT = 3
 
 module _ (E : Edition) where
   -- q blocks of one kind, from block `first` on, hold n records; each but the last is full
@@ -56,9 +51,9 @@ module _ (E : Edition) where
     pub some : 1 ≤ length f / 512
     pub most : length f / 512 ≤ E.blocks
 
-  -- The number and the place of a file's refusal. Block by block: 2 where its sum is wrong, else 3 where it is the first that, with those before it,
-  -- cannot begin a proper file; and where there is no such block, 3 at the last block if it is not an end block
-  pub data Fault (f : List ℕ) : ℕ → ℕ → Type 0 where
-    check : {i : ℕ} → i < length f / 512 → Begins f i → ¬ Sound (block_at f i) → Fault f CHECK i
-    layout : {i : ℕ} → i < length f / 512 → Begins f i → Sound (block_at f i) → ¬ Begins f (suc i) → Fault f LAYOUT i
-    last : {i : ℕ} → suc i ≡ length f / 512 → Begins f (suc i) → ((limit : ℕ) → ¬ EndBlock E i limit (block_at f i)) → Fault f LAYOUT i
+  -- The refusal of a file. Block by block: 2 where its sum is wrong, else 3 where it is the first that, with those before it, cannot begin a proper file;
+  -- and where there is no such block, 3 at the last block if it is not an end block
+  pub data Fault (f : List ℕ) : Refusal → Type 0 where
+    check : {i : ℕ} → i < length f / 512 → Begins f i → ¬ Sound (block_at f i) → Fault f (Check i)
+    layout : {i : ℕ} → i < length f / 512 → Begins f i → Sound (block_at f i) → ¬ Begins f (suc i) → Fault f (Layout i)
+    last : {i : ℕ} → suc i ≡ length f / 512 → Begins f (suc i) → ((limit : ℕ) → ¬ EndBlock E i limit (block_at f i)) → Fault f (Layout i)

@@ -9,15 +9,14 @@ use lib.ListN.{length, drop, get_or}
 use Rattle.words.specs.Bits.{bit}
 use Rattle.lists.specs.Every.{All}
 use Rattle.lists.proofs.Bools.{both}
-use Rattle.checker.specs.declared.Checked.TheVariants.{Ok}
+use Rattle.std.specs.Prelude.{Result, Ok}
 use Rattle.lists.specs.Lists.{series, flat, Under}
 use Rattle.tighten.specs.Memory.{Cleared}
 use Rattle.decimal.specs.Text.{digits, decimal}
 use Rattle.lists.proofs.Unders.{under_none, under_cons}
 use Rattle.blocks.specs.Written.{Slices}
 use Rattle.blocks.proofs.Passed.{passed}
-use Rattle.report.specs.declared.Advised.{Advised}
-use Rattle.report.specs.declared.Advised.TheVariants as answer
+use Rattle.checker.specs.declared.refusal.Refusal.{Refusal}
 use Rattle.report.specs.Text.{items, line, binary, word_lines, cause_line, text_of, Report, sat, unsat, named}
 use Rattle.report.specs.Promise.{Lent, ReportOf, found_first, none_named, answered, Advises, size, lines}
 use Rattle.report.proofs.Once.{reports_once}
@@ -48,12 +47,12 @@ board_slices p t =
 
 -- ---- what is put for a file whose problem is answered
 
-put_for : (p : Problem) (limit : ℕ) (x : Report) → T (fits_slices p) → check_with p limit ≡ Ok
+put_for : (p : Problem) (limit : ℕ) (x : Report) → T (fits_slices p) → check_with p limit ≡ Ok tt
     → ReportOf limit (lent_words p.widths p.lo p.hi) (lent_rules p.rules) x → PutFor p limit (text_of x)
 put_for p limit x t e a = record { answered = go }
   where
-    go : {out work out' work' : List ℕ} {r : Advised} → Lent out work → Advises (bytes_of p limit) out work r out' work'
-        → (r ≡ answer.Lines (length (text_of x))) × (out' ≡ text_of x ++ drop (length (text_of x)) out) × Cleared work work'
+    go : {out work out' work' : List ℕ} {r : Result ℕ Refusal} → Lent out work → Advises (bytes_of p limit) out work r out' work'
+        → (r ≡ Ok (length (text_of x))) × (out' ≡ text_of x ++ drop (length (text_of x)) out) × Cleared work work'
     go lent (size h) = absurd (h lent)
     go lent (lines {x = y} g reports put c) =
         let same : y ≡ x = reports_once reports (answered (record { storable = passed (board_slices p t) e; same = refl }) e a) in

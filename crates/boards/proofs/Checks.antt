@@ -12,17 +12,17 @@ use Rattle.rules.specs.Rows.{uses}
 use Rattle.rules.specs.Tight.{rule, word}
 use Rattle.lists.specs.Every.{All}
 use Rattle.lists.proofs.Bools.{both}
-use Rattle.checker.specs.declared.Checked.{Checked}
-use Rattle.checker.specs.declared.Checked.TheVariants.{Ok, Refused}
+use Rattle.std.specs.Prelude.{Ok, Err}
+use Rattle.checker.specs.Refusal.{Checked}
 use Rattle.boards.specs.Row.{Problem, Row, solve, ceiling, explain, cause, file, check_with, check_of, AsksOpen, Checks}
 
 abbrev is_ok : Checked → Bool
-is_ok Ok = true
-is_ok (Refused n i) = false
+is_ok (Ok t) = true
+is_ok (Err r) = false
 
-ok_is : (x : Checked) → T (is_ok x) → x ≡ Ok
-ok_is Ok t = refl
-ok_is (Refused n i) t = absurd t
+ok_is : (x : Checked) → T (is_ok x) → x ≡ Ok tt
+ok_is (Ok u) t = refl
+ok_is (Err r) t = absurd t
 
 abbrev asksb : Problem → ℕ → Place → ℕ → Bool
 asksb p n q j =

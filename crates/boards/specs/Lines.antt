@@ -1,8 +1,7 @@
 -- To be believed: what the adviser program prints for the files of boards G and H, as the paper has it, and what it means that `advise` puts such lines.
-use Rattle.std.specs.Prelude.{◌≡◌, List, [], ◌∷◌, ◌++◌, ℕ, length, drop}
+use Rattle.std.specs.Prelude.{◌≡◌, List, [], ◌∷◌, ◌++◌, ℕ, length, drop, Result, Ok}
 use Rattle.tighten.specs.Memory.{Cleared}
-use Rattle.report.specs.declared.Advised.{Advised}
-use Rattle.report.specs.declared.Advised.TheVariants as answer
+use Rattle.checker.specs.declared.refusal.Refusal.{Refusal}
 use Rattle.report.specs.Promise.{Lent, Advises}
 use Rattle.boards.specs.Row.{Problem, bytes_of}
 
@@ -21,5 +20,5 @@ lines_h = 117 ∷ 110 ∷ 115 ∷ 97 ∷ 116 ∷ 32 ∷ 48 ∷ 10 ∷ 99 ∷ 97 
 -- Given the problem's file, `advise` puts these lines. Whatever bytes and work memory of enough length are lent, every result that its promise allows is this
 -- one: the answer is their length, they stand in front, the rest of the bytes stays as it was, and work memory is all 0
 pub record PutFor (p : Problem) (limit : ℕ) (text : List ℕ) : Type 0 where
-  pub answered : {out work out' work' : List ℕ} {r : Advised} → Lent out work → Advises (bytes_of p limit) out work r out' work'
-      → (r ≡ answer.Lines (length text)) × (out' ≡ text ++ drop (length text) out) × Cleared work work'
+  pub answered : {out work out' work' : List ℕ} {r : Result ℕ Refusal} → Lent out work → Advises (bytes_of p limit) out work r out' work'
+      → (r ≡ Ok (length text)) × (out' ≡ text ++ drop (length text) out) × Cleared work work'

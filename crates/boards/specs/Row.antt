@@ -1,14 +1,12 @@
 -- To be believed: a row of the table of boards, and what it says.
-use Rattle.std.specs.Prelude.{◌≡◌, List, [], ◌∷◌, ℕ, ◌<◌, T, length, drop}
+use Rattle.std.specs.Prelude.{◌≡◌, List, [], ◌∷◌, ℕ, ◌<◌, T, length, drop, Ok}
 use Rattle.words.specs.Table.{Table, Open}
 use Rattle.lists.specs.Lists.{at}
 use Rattle.rules.specs.Kinds.{Place, kind_of}
 use Rattle.rules.specs.Rows.{uses}
 use Rattle.rules.specs.Tight.{Rule, rule, word, shape, span, Tight}
 use Rattle.rules.specs.Tightening.{Widest}
-use Rattle.checker.specs.declared.Checked.{Checked}
-use Rattle.checker.specs.declared.Checked.TheVariants.{Ok}
-use Rattle.checker.specs.Refusal.{refusal, refusal_with}
+use Rattle.checker.specs.Refusal.{Checked, refusal, refusal_with}
 use Rattle.search_theory.specs.Search.{Outcome, Search}
 use Rattle.search_theory.specs.Ceiling.{Ceiling}
 use Rattle.reason_theory.specs.Says.{Answer}
@@ -74,8 +72,8 @@ pub record AsksOpen (p : Problem) (n : ℕ) (q : Place) (j : ℕ) : Type 0 where
 
 -- nothing that a row asks is refused: `check` passes its problem, and a question is about an open bit
 abbrev pub Checks : Row → Type 0
-Checks (solve p limit o) = check_with p limit ≡ Ok
-Checks (ceiling p c) = check_of p ≡ Ok
-Checks (explain p n q j x out) = (check_of p ≡ Ok) × AsksOpen p n q j
-Checks (cause p limit x) = check_with p limit ≡ Ok
-Checks (file p limit f) = check_with p limit ≡ Ok
+Checks (solve p limit o) = check_with p limit ≡ Ok tt
+Checks (ceiling p c) = check_of p ≡ Ok tt
+Checks (explain p n q j x out) = (check_of p ≡ Ok tt) × AsksOpen p n q j
+Checks (cause p limit x) = check_with p limit ≡ Ok tt
+Checks (file p limit f) = check_with p limit ≡ Ok tt

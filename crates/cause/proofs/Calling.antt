@@ -1,14 +1,15 @@
 -- The call's own steps: what is not refused is a proper problem with room, and what the trials come to is the answer.
 use mathlib.Core.Path.{◌≡◌, sym, ap, subst, ◌∙◌}
-use mathlib.Core.Bool.{true, false}
 use mathlib.Core.List.{List, []}
 use Prim.Native.Nat.{ℕ, ◌+◌, ◌≤◌, ◌<◌}
 use native.Mathlib.Omega.{arith}
+use Rattle.std.proofs.Common.{Err}
 use lib.ListN.{length}
 use Rattle.checker.proofs.Firsts.{refused_not_ok}
-use Rattle.lists.specs.Lists.{at, series}
-use Rattle.rules.proofs.Propers.{proper_inside}
-use Rattle.checker.specs.declared.Checked.TheVariants.{Ok, Refused}
+use Rattle.lists.specs.Lists.{at}
+use Rattle.std.specs.Prelude.{Result, Ok, Err}
+use Rattle.checker.specs.declared.refusal.Refusal.{Refusal}
+use Rattle.checker.specs.declared.refusal.Refusal.TheVariants.{Size}
 use Rattle.problem.specs.Lent.{widths_of, table_of, rule_count, rule_at, rules_of, word_count}
 use Rattle.checker.specs.Refusal.{refusal_with}
 use Rattle.checker.specs.Promise.{Fine}
@@ -23,39 +24,38 @@ use Rattle.search.specs.declared.Answer.{Answer}
 use Rattle.search.specs.declared.Answer.TheVariants.{Found, Nothing, GaveUp}
 use Rattle.search.specs.Searching.{outcome_of}
 use Rattle.search.specs.Starting.{ToSearch, Sought}
-use Rattle.cause_theory.specs.Cause.{Cause, CAUSE, Tried, Trims, exists, gives_up, trimmed}
-use Rattle.cause_theory.proofs.Without.{cause_some}
+use Rattle.cause_theory.specs.Cause.{Cause, Tried, Trims, exists, gives_up, trimmed}
 use Rattle.cause.specs.declared.Caused.{Caused}
 use Rattle.cause.specs.declared.Caused.TheVariants as answer
-use Rattle.cause.specs.declared.Trimmed.{Trimmed}
-use Rattle.cause.specs.Listing.{kept_in, Standing, Short, Held}
-use Rattle.cause.specs.Trials.{TrimsTo, Trimming, TrialsEnd, all_decided, one_gave_up}
+use Rattle.cause.specs.declared.Kept.{Kept}
+use Rattle.cause.specs.Listing.{kept_in, Short, Held}
+use Rattle.cause.specs.Trials.{TrimsTo, Trimming, AllDecided, TrialsEnd}
 use Rattle.cause.specs.Promise.{cause_work, cause_refusal, Named, Entered, Causing, refused, exists_at, gave_up_at, caused_by, NoneFirst, CauseGiven}
 
 -- ---- what is refused
 
 module _ (limit : ℕ) (ws bs s l : List ℕ) where
-  pub short_work : length l < cause_work → Causing limit ws bs s l (answer.Refused 1 0) s l
+  pub short_work : length l < cause_work → Causing limit ws bs s l (Err Size) s l
   unfolding cause_refusal
   short_work h = refused (first_short cause_work (length l) (rule_count bs) (length s) (refusal_with limit ws bs) h)
 
-  pub short_list : cause_work ≤ length l → length s < rule_count bs → Causing limit ws bs s l (answer.Refused 1 0) s l
+  pub short_list : cause_work ≤ length l → length s < rule_count bs → Causing limit ws bs s l (Err Size) s l
   unfolding cause_refusal
   short_list g h = refused (second_short cause_work (length l) (rule_count bs) (length s) (refusal_with limit ws bs) g h)
 
-  pub problem_refused : {n p : ℕ} → cause_work ≤ length l → rule_count bs ≤ length s → refusal_with limit ws bs ≡ Refused n p
-      → Causing limit ws bs s l (answer.Refused n p) s l
+  pub problem_refused : {r : Refusal} → cause_work ≤ length l → rule_count bs ≤ length s → refusal_with limit ws bs ≡ Err r
+      → Causing limit ws bs s l (Err r) s l
   unfolding cause_refusal
   problem_refused g h e = refused (roomy cause_work (length l) (rule_count bs) (length s) (refusal_with limit ws bs) g h ∙ e)
 
-  pub nothing_refused : cause_work ≤ length l → rule_count bs ≤ length s → refusal_with limit ws bs ≡ Ok → CauseGiven limit ws bs s l
+  pub nothing_refused : cause_work ≤ length l → rule_count bs ≤ length s → refusal_with limit ws bs ≡ Ok tt → CauseGiven limit ws bs s l
   unfolding cause_refusal
   nothing_refused g h e = record { passed = roomy cause_work (length l) (rule_count bs) (length s) (refusal_with limit ws bs) g h ∙ e }
 
 -- ---- what is not
 
 module _ {limit : ℕ} {ws bs s l : List ℕ} (given : CauseGiven limit ws bs s l) where
-  roomed : (cause_work ≤ length l) × (rule_count bs ≤ length s) × (refusal_with limit ws bs ≡ Ok)
+  roomed : (cause_work ≤ length l) × (rule_count bs ≤ length s) × (refusal_with limit ws bs ≡ Ok tt)
   unfolding cause_refusal
   roomed = has_room cause_work (length l) (rule_count bs) (length s) (refusal_with limit ws bs) given.passed
 
@@ -75,10 +75,8 @@ module _ {limit : ℕ} {ws bs s l : List ℕ} (given : CauseGiven limit ws bs s 
   -- ---- the first search
 
   module _ {k : List ℕ} (y : Numbered (rule_count bs) l k) where
-    pub asked : ToSearch ws bs k (rule_count bs)
+    pub asked : ToSearch bs k (rule_count bs)
     asked = record {
-      sized = fine.sized;
-      problem = fine.problem;
       listed = all_listed bs y (omega (arith, fine.sized.rules, work_room, y.size));
       few = fine.sized.rules;
       room = omega (arith, work_room, y.size);
@@ -94,16 +92,16 @@ module _ {limit : ℕ} {ws bs s l : List ℕ} (given : CauseGiven limit ws bs s 
       cleared : {l' : List ℕ} → Cleared z l' → Cleared l l'
       cleared x = record { size = x.size ∙ same_size; zeros = x.zeros }
 
-      pub end_exists : {g : ℕ} {l' : List ℕ} → r ≡ Found g → Cleared z l' → Causing limit ws bs s l (answer.Exists g) s l'
+      pub end_exists : {g : ℕ} {l' : List ℕ} → r ≡ Found g → Cleared z l' → Causing limit ws bs s l (Ok (answer.Exists g)) s l'
       end_exists e c = exists_at given (exists (rw e at tried)) (cleared c)
 
-      pub end_gave_up : {l' : List ℕ} → r ≡ GaveUp → Cleared z l' → Causing limit ws bs s l (answer.GaveUp limit) s l'
+      pub end_gave_up : {l' : List ℕ} → r ≡ GaveUp → Cleared z l' → Causing limit ws bs s l (Ok (answer.GaveUp limit)) s l'
       end_gave_up e c = gave_up_at given (gives_up (rw e at tried)) (cleared c)
 
       pub end_none : {g : ℕ} → r ≡ Nothing g → NoneFirst limit ws bs s z g
       end_none e = record { given = given_again same_size; nothing = rw e at tried }
 
-      pub end_trials : {x : Caused} {s' l' : List ℕ} → Causing limit ws bs s z x s' l' → Causing limit ws bs s l x s' l'
+      pub end_trials : {x : Result Caused Refusal} {s' l' : List ℕ} → Causing limit ws bs s z x s' l' → Causing limit ws bs s l x s' l'
       end_trials (refused e) = absurd (refused_not_ok e (given_again {z = z} same_size).passed)
       end_trials (exists_at g c x) = exists_at given c (cleared x)
       end_trials (gave_up_at g c x) = gave_up_at given c (cleared x)
@@ -115,9 +113,9 @@ module _ {limit : ℕ} {ws bs s l : List ℕ} {first : ℕ} (n : NoneFirst limit
   f : Fine limit ws bs
   f = fine n.given
 
-  pub trimming : Trimming ws bs k limit first
+  pub trimming : Trimming bs k limit first
   trimming = record {
-    lent = record { sized = f.sized; problem = f.problem; room = omega (arith, work_room n.given, y.size) };
+    room = omega (arith, work_room n.given, y.size);
     standing = record { numbers = λ j h. y.each j h; kept = λ j h. absurd (omega arith); most = omega arith };
     low = f.guesses;
     few = omega (arith, count_limit n.nothing answer_none (omega arith), f.guesses);
@@ -128,66 +126,48 @@ module _ {limit : ℕ} {ws bs s l : List ℕ} {first : ℕ} (n : NoneFirst limit
       trimmed n.nothing
       (subst (λ m. Trims (widths_of ws) (rules_of bs) limit (table_of ws) m [] first x) (sym (length_series (rule_count bs) (rule_at bs))) t)
 
-  module _ {r : Trimmed} {z : List ℕ} (d : TrialsEnd ws bs limit first k r z) where
-    cleared_end : length z ≡ length k → {l' : List ℕ} → Cleared z l' → Cleared l l'
-    cleared_end e x = record { size = x.size ∙ e ∙ y.size; zeros = x.zeros }
+  cleared_end : {z : List ℕ} → length z ≡ length k → {l' : List ℕ} → Cleared z l' → Cleared l l'
+  cleared_end e x = record { size = x.size ∙ e ∙ y.size; zeros = x.zeros }
 
-    -- a trial gave up
-    pub gave_up_end : r.decided ≡ false → {l' : List ℕ} → Cleared z l' → Causing limit ws bs s l (answer.GaveUp r.sum) s l'
-    gave_up_end e = go d
+  -- a trial gave up
+  pub gave_up_end : {sum : ℕ} {z : List ℕ} → TrialsEnd ws bs limit first k (Err sum) z → {l' : List ℕ} → Cleared z l'
+      → Causing limit ws bs s l (Ok (answer.GaveUp sum)) s l'
+  gave_up_end (b, t) x = gave_up_at n.given (named t) (cleared_end b x)
+
+  -- all trials were decided
+  module _ {r : Kept} {z : List ℕ} (d : AllDecided ws bs limit first k r z) where
+    pub give_room : (r.rules ≤ length s) × Short r.rules z
+    give_room =
+        let m = d.standing.most in (
+          omega (arith, list_room n.given),
+          record {
+            most = omega (arith, f.sized.rules);
+            room = omega (arith, f.sized.rules, work_room n.given, y.size, d.size);
+            each = λ j h. omega (arith, low j h, f.sized.rules);
+          },
+        )
       where
-        go : TrialsEnd ws bs limit first k r z → {l' : List ℕ} → Cleared z l' → Causing limit ws bs s l (answer.GaveUp r.sum) s l'
-        go (all_decided a b c t) x = absurd (let q : ◌≡◌ {A = ℕ} 0 1 = cc (a, e) in omega arith)
-        go (one_gave_up a b t) x = gave_up_at n.given (named t) (cleared_end b x)
+        low : (j : ℕ) → j < r.rules → at z (64 + j) < rule_count bs
+        low j h =
+            let q : 64 + 0 + j ≡ 64 + j = omega arith in
+            rw q at (d.standing.kept j h)
 
-    module _ (e : r.decided ≡ true) where
-      -- all trials were decided
-      decided_as : (length z ≡ length k) × Standing bs z 0 r.kept × Named limit ws bs (CAUSE (kept_in z 0 r.kept) r.sum)
-      decided_as = go d
-        where
-          go : TrialsEnd ws bs limit first k r z
-              → (length z ≡ length k) × Standing bs z 0 r.kept × Named limit ws bs (CAUSE (kept_in z 0 r.kept) r.sum)
-          go (all_decided a b c t) = (b, c, named t)
-          go (one_gave_up a b t) = absurd (let q : ◌≡◌ {A = ℕ} 0 1 = cc (a, e) in omega arith)
+    pub cause_end : {s' l' : List ℕ} → Held r.rules z s s' → Cleared z l' → Causing limit ws bs s l (Ok (answer.Cause r.count r.rules)) s' l'
+    unfolding kept_in
+    cause_end {s'} h x = caused_by n.given (named d.trims) size entered (cleared_end d.size x)
+      where
+        size : length (kept_in z 0 r.rules) ≡ r.rules
+        size = length_series r.rules (λ j. at z (64 + 0 + j))
 
-      -- a cause names at least one rule
-      pub not_empty : r.kept ≡ 0 → ⊥
-      unfolding kept_in series
-      not_empty q = cause_some (proper_inside f.problem.table) (rw q at decided_as.2)
+        same : (j : ℕ) → j < r.rules → at (kept_in z 0 r.rules) j ≡ at z (64 + j)
+        same j l =
+            let q : 64 + 0 + j ≡ 64 + j = omega arith in
+            series_at 0 r.rules j (λ i. at z (64 + 0 + i)) l ∙ ap (at z) q
 
-      pub give_room : (r.kept ≤ length s) × Short r.kept z
-      give_room =
-          let c = decided_as.1 in
-          let m = c.most in (
-            omega (arith, list_room n.given),
-            record {
-              most = omega (arith, f.sized.rules);
-              room = omega (arith, f.sized.rules, work_room n.given, y.size, decided_as.0);
-              each = λ j h. omega (arith, low j h, f.sized.rules);
-            },
-          )
-        where
-          low : (j : ℕ) → j < r.kept → at z (64 + j) < rule_count bs
-          low j h =
-              let q : 64 + 0 + j ≡ 64 + j = omega arith in
-              rw q at (decided_as.1.kept j h)
-
-      pub cause_end : {s' l' : List ℕ} → Held r.kept z s s' → Cleared z l' → Causing limit ws bs s l (answer.Cause r.sum r.kept) s' l'
-      unfolding kept_in
-      cause_end {s'} h x = caused_by n.given decided_as.2 size entered (cleared_end decided_as.0 x)
-        where
-          size : length (kept_in z 0 r.kept) ≡ r.kept
-          size = length_series r.kept (λ j. at z (64 + 0 + j))
-
-          same : (j : ℕ) → j < r.kept → at (kept_in z 0 r.kept) j ≡ at z (64 + j)
-          same j l =
-              let q : 64 + 0 + j ≡ 64 + j = omega arith in
-              series_at 0 r.kept j (λ i. at z (64 + 0 + i)) l ∙ ap (at z) q
-
-          entered : Entered (kept_in z 0 r.kept) s s'
-          entered = record {
-            room = omega (arith, size, give_room.0);
-            size = h.size;
-            each = λ i l. let m : i < r.kept = rw size at l in h.each i m ∙ sym (same i m);
-            rest = λ i l. h.rest i (rw size at l);
-          }
+        entered : Entered (kept_in z 0 r.rules) s s'
+        entered = record {
+          room = omega (arith, size, give_room.0);
+          size = h.size;
+          each = λ i l. let m : i < r.rules = rw size at l in h.each i m ∙ sym (same i m);
+          rest = λ i l. h.rest i (rw size at l);
+        }

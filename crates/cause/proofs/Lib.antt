@@ -1,4 +1,4 @@
-pub mod Shifting
+pub mod Giving
 pub mod Trying
 pub mod Trimming
 pub mod Calling

@@ -14,16 +14,17 @@ use Rattle.cause_theory.specs.Cause.{CAUSE}
 use Rattle.cause_theory.proofs.Without.{cause_without, cause_some}
 use Rattle.lists.specs.Every.{In}
 use Rattle.cause_theory.proofs.Irreducible.{cause_irreducible}
+use Rattle.std.specs.Prelude.{Ok}
 use Rattle.cause.specs.declared.Caused.TheVariants as answer
 use Rattle.cause.specs.Promise.{Named, Causing, caused_by, CauseGiven, RulesHold}
 use Rattle.cause.proofs.Calling.{fine}
 
-module _ {limit : ℕ} {ws bs s l : List ℕ} {g k : ℕ} {s' l' : List ℕ} (c : Causing limit ws bs s l (answer.Cause g k) s' l') where
+module _ {limit : ℕ} {ws bs s l : List ℕ} {g k : ℕ} {s' l' : List ℕ} (c : Causing limit ws bs s l (Ok (answer.Cause g k)) s' l') where
   -- the first k entries are the cause of the paper's procedure, and g its sum
   pub cause_listed : Named limit ws bs (CAUSE (take k s') g)
   cause_listed = go c
     where
-      go : Causing limit ws bs s l (answer.Cause g k) s' l' → Named limit ws bs (CAUSE (take k s') g)
+      go : Causing limit ws bs s l (Ok (answer.Cause g k)) s' l' → Named limit ws bs (CAUSE (take k s') g)
       go (caused_by {out = out} h n q e x) = subst (λ o. Named limit ws bs (CAUSE o g)) (sym same) n
         where
           long : length (take k s') ≡ length out
@@ -50,7 +51,7 @@ module _ {limit : ℕ} {ws bs s l : List ℕ} {g k : ℕ} {s' l' : List ℕ} (c 
       none_left : k ≡ 0 → CauseGiven limit ws bs s l → ⊥
       none_left z h = cause_some (proper_inside (fine h).problem.table) (rw z at cause_listed)
 
-      go : Causing limit ws bs s l (answer.Cause g k) s' l' → 0 < k
+      go : Causing limit ws bs s l (Ok (answer.Cause g k)) s' l' → 0 < k
       go (caused_by h n q e x) = by (ℕ_discrete k 0)
         where
           by : Dec (k ≡ 0) → 0 < k

@@ -12,6 +12,8 @@ use Rattle.problem.specs.Lent.{widths_of, table_of, rules_of}
 use Rattle.tighten.proofs.Once.{cleared_once}
 use Rattle.cause_theory.specs.Cause.{Cause, EXISTS, CAUSE, GAVE_UP}
 use Rattle.cause_theory.proofs.One.{one_cause}
+use Rattle.std.specs.Prelude.{Result}
+use Rattle.checker.specs.declared.refusal.Refusal.{Refusal}
 use Rattle.cause.specs.declared.Caused.{Caused}
 use Rattle.cause.specs.Promise.{Named, Entered, Causing, refused, exists_at, gave_up_at, caused_by}
 
@@ -35,7 +37,8 @@ gave_up_not_cause : {a b : ℕ} {out : List ℕ} → GAVE_UP a ≡ CAUSE out b �
 gave_up_not_cause e = let z : ◌≡◌ {A = ℕ} 0 1 = cc in omega arith
 
 module _ {limit : ℕ} {ws bs s l : List ℕ} where
-  pub cause_once : {x y : Caused} {a b k n : List ℕ} → Causing limit ws bs s l x a k → Causing limit ws bs s l y b n → (x ≡ y) × (a ≡ b) × (k ≡ n)
+  pub cause_once : {x y : Result Caused Refusal} {a b k n : List ℕ} → Causing limit ws bs s l x a k → Causing limit ws bs s l y b n
+      → (x ≡ y) × (a ≡ b) × (k ≡ n)
   cause_once (refused e) (refused e') = (cc, refl, refl)
   cause_once (refused e) (exists_at g c x) = absurd (refused_not_ok e g.passed)
   cause_once (refused e) (gave_up_at g c x) = absurd (refused_not_ok e g.passed)

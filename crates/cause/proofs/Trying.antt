@@ -1,10 +1,11 @@
 -- One trial: the rule taken out of the list, the search of the rest, and what is kept then.
+use Rattle.checker.specs.Promise.{Fine}
 use mathlib.Core.Path.{◌≡◌, refl, sym, ap, ◌∙◌}
-use mathlib.Core.Bool.{true, false}
 use mathlib.Core.List.{List, ◌∷◌, ◌++◌, map}
 use Prim.Native.Nat.{ℕ, zero, suc, ◌+◌, ◌≤◌, ◌<◌, ◌-◌}
 use native.Mathlib.Numerals.{add-one}
 use native.Mathlib.Omega.{arith}
+use Rattle.std.proofs.Common.{None, Some}
 use native.Mathlib.Decide.{dec_lt}
 use lib.ListN.{length, take}
 use Rattle.lists.specs.Lists.{at, series}
@@ -19,14 +20,14 @@ use Rattle.search.specs.Searching.{outcome_of}
 use Rattle.search.specs.Starting.{ToSearch, Sought}
 use Rattle.cause_theory.specs.Cause.{trial}
 use Rattle.cause.specs.Listing.{kept_in, Removed, Inserted}
-use Rattle.cause.specs.Trials.{TriedFor, Trying, Left, Tries, dropped, kept_on, given_up}
+use Rattle.cause.specs.Trials.{TriedFor, Trying, Left, Tries, dropped, kept_on}
 
-module _ {ws bs l : List ℕ} {n k : ℕ} (t : Trying ws bs l n k) {m : List ℕ} (x : Removed n k l m) where
+module _ {ws bs l : List ℕ} {n k : ℕ} (fine : Fine 0 ws bs) (t : Trying bs l n k) {m : List ℕ} (x : Removed n k l m) where
   fewer : n + k < rule_count bs
   fewer = omega (arith, t.standing.most)
 
   few : rule_count bs ≤ 252
-  few = t.lent.sized.rules
+  few = fine.sized.rules
 
   number : (j : ℕ) → j < n → at m (64 + j) ≡ j
   number j h = x.below (64 + j) (omega arith) ∙ t.standing.numbers j (omega arith)
@@ -47,13 +48,11 @@ module _ {ws bs l : List ℕ} {n k : ℕ} (t : Trying ws bs l n k) {m : List ℕ
           let low : at m (64 + n + (j - n)) < rule_count bs = rw (moved (j - n) (omega arith)) (t.standing.kept (j - n) (omega arith)) in
           rw e at low
 
-  pub trial_asked : ToSearch ws bs m (n + k)
+  pub trial_asked : ToSearch bs m (n + k)
   trial_asked = record {
-    sized = t.lent.sized;
-    problem = t.lent.problem;
-    listed = record { room = omega (arith, fewer, few, t.lent.room, x.size); each = below };
+    listed = record { room = omega (arith, fewer, few, t.room, x.size); each = below };
     few = omega (arith, fewer, few);
-    room = omega (arith, t.lent.room, x.size);
+    room = omega (arith, t.room, x.size);
   }
 
   -- the rules listed are those of the trial
@@ -88,9 +87,6 @@ module _ {ws bs l : List ℕ} {n k : ℕ} (t : Trying ws bs l n k) {m : List ℕ
     pub memory_size : length z ≡ length l
     memory_size = s.size ∙ x.size
 
-    pub list_room : (n + k < 252) × (316 ≤ length z)
-    list_room = (omega (arith, fewer, few), omega (arith, memory_size, t.lent.room))
-
     -- dropped
     still : Left bs n k (kept_in l (suc n) k) l z
     unfolding kept_in
@@ -100,11 +96,11 @@ module _ {ws bs l : List ℕ} {n k : ℕ} (t : Trying ws bs l n k) {m : List ℕ
       same = series_same k _ _ kept_in_lem;
     }
 
-    pub trial_dropped : {d : ℕ} → r ≡ Nothing d → Tries ws bs limit n k l (record { decided = true; count = d; kept = k }) z
-    trial_dropped e = dropped refl refl (rw e at tried) still
+    pub trial_dropped : {d : ℕ} → r ≡ Nothing d → Tries ws bs limit n k l (Some (record { count = d; rules = k })) z
+    trial_dropped e = dropped refl (rw e at tried) still
 
-    pub trial_gave_up : r ≡ GaveUp → Tries ws bs limit n k l (record { decided = false; count = limit; kept = k }) z
-    trial_gave_up e = given_up refl refl (rw e at tried) memory_size
+    pub trial_gave_up : r ≡ GaveUp → Tries ws bs limit n k l None z
+    trial_gave_up e = (rw e at tried, memory_size)
 
     -- kept
     module _ {y : List ℕ} (i : Inserted n k z y) (here : at y (64 + n) ≡ n) where
@@ -132,5 +128,5 @@ module _ {ws bs l : List ℕ} {n k : ℕ} (t : Trying ws bs l n k) {m : List ℕ
         same = rw (add-one k) (cc (first, series_same k (λ j. at y (64 + n + suc j)) (λ j. at l (64 + suc n + j)) moved_up));
       }
 
-      pub trial_kept : {d : ℕ} → r ≡ Found d → Tries ws bs limit n k l (record { decided = true; count = d; kept = k + 1 }) y
-      trial_kept e = kept_on refl refl (rw e at tried) put_back
+      pub trial_kept : {d : ℕ} → r ≡ Found d → Tries ws bs limit n k l (Some (record { count = d; rules = k + 1 })) y
+      trial_kept e = kept_on refl (rw e at tried) put_back

@@ -1,11 +1,10 @@
 -- To be believed: what the call `cause` promises: its answer, and every lent number afterwards.
-use Rattle.std.specs.Prelude.{◌≡◌, List, map, ℕ, ◌≤◌, ◌<◌, length}
+use Rattle.std.specs.Prelude.{◌≡◌, List, map, ℕ, ◌≤◌, ◌<◌, length, Result, Ok, Err}
 use Rattle.rules.specs.Tight.{rule, AllHold}
 use Rattle.lists.specs.Lists.{at}
-use Rattle.checker.specs.declared.Checked.{Checked}
-use Rattle.checker.specs.declared.Checked.TheVariants.{Ok, Refused}
+use Rattle.checker.specs.declared.refusal.Refusal.{Refusal}
 use Rattle.problem.specs.Lent.{widths_of, table_of, rule_count, rules_of}
-use Rattle.checker.specs.Refusal.{refusal_with, with_room}
+use Rattle.checker.specs.Refusal.{Checked, refusal_with, with_room}
 use Rattle.tighten.specs.Memory.{Cleared}
 use Rattle.search_theory.specs.Search.{none}
 use Rattle.cause_theory.specs.Cause.{Cause, EXISTS, CAUSE, GAVE_UP, Tried, Causes}
@@ -22,7 +21,7 @@ cause_refusal limit ws bs list work = with_room cause_work (length work) (rule_c
 
 -- nothing is refused
 pub record CauseGiven (limit : ℕ) (ws bs list work : List ℕ) : Type 0 where
-  pub passed : cause_refusal limit ws bs list work ≡ Ok
+  pub passed : cause_refusal limit ws bs list work ≡ Ok tt
 
 -- what the paper's procedure comes to for the lent problem
 abbrev pub Named : ℕ → List ℕ → List ℕ → Cause → Type 0
@@ -36,15 +35,15 @@ pub record Entered (out list list' : List ℕ) : Type 0 where
   pub rest : (i : ℕ) → length out ≤ i → at list' i ≡ at list i
 
 -- words ws, rules bs, a limit, a list and work memory were lent; the answer comes back, and list' and work' stand in list and memory afterwards
-pub data Causing (limit : ℕ) (ws bs list work : List ℕ) : Caused → List ℕ → List ℕ → Type 0 where
-  refused : {n p : ℕ} → cause_refusal limit ws bs list work ≡ Refused n p → Causing limit ws bs list work (answer.Refused n p) list work
+pub data Causing (limit : ℕ) (ws bs list work : List ℕ) : Result Caused Refusal → List ℕ → List ℕ → Type 0 where
+  refused : {r : Refusal} → cause_refusal limit ws bs list work ≡ Err r → Causing limit ws bs list work (Err r) list work
   exists_at : {work' : List ℕ} {g : ℕ} → CauseGiven limit ws bs list work → Named limit ws bs (EXISTS g) → Cleared work work'
-      → Causing limit ws bs list work (answer.Exists g) list work'
+      → Causing limit ws bs list work (Ok (answer.Exists g)) list work'
   gave_up_at : {work' : List ℕ} {g : ℕ} → CauseGiven limit ws bs list work → Named limit ws bs (GAVE_UP g) → Cleared work work'
-      → Causing limit ws bs list work (answer.GaveUp g) list work'
+      → Causing limit ws bs list work (Ok (answer.GaveUp g)) list work'
   caused_by : {out list' work' : List ℕ} {g k : ℕ} → CauseGiven limit ws bs list work → Named limit ws bs (CAUSE out g) → length out ≡ k
       → Entered out list list' → Cleared work work'
-      → Causing limit ws bs list work (answer.Cause g k) list' work'
+      → Causing limit ws bs list work (Ok (answer.Cause g k)) list' work'
 
 -- the problem is given, and its own search found that it has no settings, with a count
 pub record NoneFirst (limit : ℕ) (ws bs list work : List ℕ) (first : ℕ) : Type 0 where

@@ -3,37 +3,25 @@ ghost use Rattle.std.specs.Prelude.{◌≡◌, ◌+◌, ◌<◌, ◌≤◌, leng
 ghost use Rattle.lists.specs.Lists.{at};
 ghost use Rattle.cause.specs.Listing.{Removed, Inserted, Held, Short};
 
+use tighten::buffer::LIST;
+
 // The number after n others taken out: the k after it move down.
 pub fn remove(work: &mut [u64], n: usize, k: usize)
     requires { (n + k < 252) × (316 ≤ length work.old) }
     ensures { Removed n k work.old work.new }
 {
-    let mut j = 0;
-    while j < k {
-        work[64 + n + j] = work[64 + n + 1 + j];
-        j += 1;
-    }
+    let place = LIST + n;
+    work.copy_within(place + 1..place + 1 + k, place);
 }
 
-// The k after n others moved up.
-fn make_room(work: &mut [u64], n: usize, k: usize)
-    requires { (n + k < 252) × (316 ≤ length work.old) }
-    ensures { Inserted n k work.old work.new }
-{
-    let mut j = k;
-    while 0 < j {
-        j -= 1;
-        work[64 + n + 1 + j] = work[64 + n + j];
-    }
-}
-
-// The number n put in after n others.
+// The number n put in after n others: the k after them move up.
 pub fn insert(work: &mut [u64], n: usize, k: usize)
     requires { (n + k < 252) × (316 ≤ length work.old) }
     ensures { Inserted n k work.old work.new × (at work.new (64 + n) ≡ n) }
 {
-    make_room(work, n, k);
-    work[64 + n] = n as u64;
+    let place = LIST + n;
+    work.copy_within(place..place + k, place + 1);
+    work[place] = n as u64;
 }
 
 // The first k numbers listed, given back as the first entries of a list.
@@ -41,9 +29,7 @@ pub fn give(list: &mut [u16], work: &[u64], k: usize)
     requires { (k ≤ length list.old) × Short k work.now }
     ensures { Held k work.now list.old list.new }
 {
-    let mut j = 0;
-    while j < k {
-        list[j] = work[64 + j] as u16;
-        j += 1;
+    for (j, entry) in list[..k].iter_mut().enumerate() {
+        *entry = work[LIST + j] as u16;
     }
 }

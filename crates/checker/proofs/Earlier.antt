@@ -10,7 +10,7 @@ use Rattle.rules.specs.Kinds.{kind_of}
 use Rattle.rules.specs.Rows.{Fitting}
 use Rattle.rules.specs.Tight.{word}
 use Rattle.rules.specs.ProperProblem.{KindNumber, Fields}
-use Rattle.checker.specs.declared.Checked.TheVariants.{Ok}
+use Rattle.std.specs.Prelude.{Ok}
 use Rattle.problem.specs.Lent.{word_count, width_at, lo_at, hi_at, rule_count, rule_at}
 use Rattle.checker.specs.Demands.{Demand, SIZE, WIDTH, TABLE, KIND, FIELD, FIT, LIMIT, number, place, phase, Before, Sized, Met, most_guesses}
 use Rattle.checker.specs.Tests.{is_width, is_kind, are_fields, is_fitting}
@@ -21,7 +21,7 @@ use Rattle.checker.proofs.Orders.{phase_le, same_phase, not_self}
 
 -- ---- a word and a rule that are OK
 
-word_met : (ws : List ℕ) (i : ℕ) → word_refusal ws i ≡ Ok → Width (width_at ws i) × Bounded (width_at ws i) (lo_at ws i) (hi_at ws i)
+word_met : (ws : List ℕ) (i : ℕ) → word_refusal ws i ≡ Ok tt → Width (width_at ws i) × Bounded (width_at ws i) (lo_at ws i) (hi_at ws i)
 unfolding word_refusal
 word_met ws i e =
     let (w, b) = then_ok (asks (WIDTH i) (is_width (width_at ws i))) _ e in (
@@ -29,7 +29,7 @@ word_met ws i e =
       bounded_sound _ _ _ (asks_ok (TABLE i) (bounded (width_at ws i) (lo_at ws i) (hi_at ws i)) b),
     )
 
-rule_met : (ws bs : List ℕ) (n : ℕ) → rule_refusal ws bs n ≡ Ok
+rule_met : (ws bs : List ℕ) (n : ℕ) → rule_refusal ws bs n ≡ Ok tt
     → KindNumber (rule_at bs n).kind × Fields (word_count ws) (rule_at bs n)
     × Fitting (kind_of (rule_at bs n).kind) (λ p. width_at ws (word (rule_at bs n) p)) (rule_at bs n).k
 unfolding rule_refusal
@@ -44,7 +44,7 @@ rule_met ws bs n e =
 module _ (limit : ℕ) (ws bs : List ℕ) (size : Sized ws bs) where
   -- ---- before a demand of word i
 
-  pub before_word : (d : Demand) (i : ℕ) → phase d ≡ 1 → place d ≡ i → number d ≤ 5 → ((j : ℕ) → j < i → word_refusal ws j ≡ Ok)
+  pub before_word : (d : Demand) (i : ℕ) → phase d ≡ 1 → place d ≡ i → number d ≤ 5 → ((j : ℕ) → j < i → word_refusal ws j ≡ Ok tt)
       → (4 < number d → Width (width_at ws i)) → (e : Demand) → Before e d → Met limit ws bs e
   before_word d i p q m h w SIZE b = size
   before_word d i p q m h w (WIDTH j) b = λ l.
@@ -55,10 +55,10 @@ module _ (limit : ℕ) (ws bs : List ℕ) (size : Sized ws bs) where
   before_word d i p q m h w (FIT n) b = absurd (omega (arith, phase_le b))
   before_word d i p q m h w LIMIT b = absurd (omega (arith, phase_le b))
 
-  module _ (words : (i : ℕ) → i < word_count ws → word_refusal ws i ≡ Ok) where
+  module _ (words : (i : ℕ) → i < word_count ws → word_refusal ws i ≡ Ok tt) where
     -- ---- before a demand of rule n
 
-    pub before_rule : (d : Demand) (n : ℕ) → phase d ≡ 2 → place d ≡ n → number d ≤ 8 → ((j : ℕ) → j < n → rule_refusal ws bs j ≡ Ok)
+    pub before_rule : (d : Demand) (n : ℕ) → phase d ≡ 2 → place d ≡ n → number d ≤ 8 → ((j : ℕ) → j < n → rule_refusal ws bs j ≡ Ok tt)
         → (6 < number d → KindNumber (rule_at bs n).kind) → (7 < number d → Fields (word_count ws) (rule_at bs n))
         → (e : Demand) → Before e d → Met limit ws bs e
     before_rule d n p q m h k f SIZE b = size
@@ -75,7 +75,7 @@ module _ (limit : ℕ) (ws bs : List ℕ) (size : Sized ws bs) where
 
     -- ---- where words and rules are OK
 
-    module _ (rules : (n : ℕ) → n < rule_count bs → rule_refusal ws bs n ≡ Ok) where
+    module _ (rules : (n : ℕ) → n < rule_count bs → rule_refusal ws bs n ≡ Ok tt) where
       most_met : (e : Demand) → (e ≡ LIMIT → limit ≤ most_guesses) → Met limit ws bs e
       most_met SIZE h = size
       most_met (WIDTH i) h = λ l. (word_met ws i (words i l)).0

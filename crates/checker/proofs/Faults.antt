@@ -13,9 +13,10 @@ use Rattle.rules.specs.Kinds.{Place, R, A, B, SLICE, JOIN, SHL, SHR, op, kind_of
 use Rattle.rules.specs.Rows.{uses, Fitting}
 use Rattle.rules.specs.Tight.{word}
 use Rattle.rules.specs.ProperProblem.{uses_k, kinds, most_words, most_rules}
-use Rattle.checker.specs.declared.Checked.TheVariants.{Refused}
+use Rattle.std.specs.Prelude.{Err}
 use Rattle.problem.specs.Lent.{stride, fields, word_count, width_at, lo_at, hi_at, rule_count, rule_at}
-use Rattle.checker.specs.Demands.{Demand, SIZE, WIDTH, TABLE, KIND, FIELD, FIT, LIMIT, number, place, Met, most_guesses, There}
+use Rattle.checker.specs.Demands.{Demand, SIZE, WIDTH, TABLE, KIND, FIELD, FIT, LIMIT, Met, most_guesses, There}
+use Rattle.checker.specs.Refusals.{refusal_of}
 use Rattle.checker.specs.Refusal.{refusal_with}
 use Rattle.checker.specs.Promise.{FirstUnmet, refused}
 use Rattle.checker.proofs.Right.{right_check}
@@ -28,9 +29,9 @@ inside {P} i n u = go (dec_lt i n)
     go (no f) = absurd (u (λ l. absurd (f l)))
 
 module _ (limit : ℕ) (ws bs : List ℕ) where
-  -- the first demand that is not met is refused, by its number and place
-  pub first_refused : (d : Demand) → FirstUnmet limit ws bs d → refusal_with limit ws bs ≡ Refused (number d) (place d)
-  first_refused d u = sym (right_check limit ws bs (Refused (number d) (place d)) (refused {n = number d} {p = place d} d refl refl u))
+  -- the first demand that is not met is refused
+  pub first_refused : (d : Demand) → FirstUnmet limit ws bs d → refusal_with limit ws bs ≡ Err (refusal_of d)
+  first_refused d u = sym (right_check limit ws bs (Err (refusal_of d)) (refused {r = refusal_of d} d refl u))
 
   pub unmet_there : (d : Demand) → ¬ Met limit ws bs d → There limit ws bs d
   unmet_there SIZE u = tt

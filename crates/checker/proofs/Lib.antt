@@ -4,6 +4,8 @@ pub mod TestsMet
 pub mod Answers
 pub mod FineMet
 pub mod Orders
+pub mod Refusals
+pub mod Handed
 pub mod Earlier
 pub mod Right
 pub mod Faults

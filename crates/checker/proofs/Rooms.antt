@@ -1,23 +1,23 @@
 -- One law for all calls: what is lent too short is refused, then the first refusal of the problem, and else the problem is given.
-use mathlib.Core.Path.{◌≡◌, sym, ◌∙◌}
+use mathlib.Core.Path.{◌≡◌}
 use mathlib.Core.List.{List}
 use Prim.Native.Nat.{ℕ, ◌≤◌, ◌<◌}
 use lib.Dec.{leb}
 use borrow.Author.Tests.{le-leb, lt-leb, leb-true}
-use Rattle.checker.specs.declared.Checked.{Checked}
-use Rattle.checker.specs.declared.Checked.TheVariants.{Ok, Refused}
+use Rattle.std.specs.Prelude.{Ok, Err}
+use Rattle.checker.specs.declared.refusal.Refusal.TheVariants.{Size}
 use Rattle.checker.specs.Demands.{SIZE}
-use Rattle.checker.specs.Refusal.{asks, ◌then◌, refusal, with_room}
+use Rattle.checker.specs.Refusal.{Checked, asks, ◌then◌, refusal, with_room}
 use Rattle.checker.specs.Promise.{Taken}
 use Rattle.checker.proofs.Answers.{passes}
-use Rattle.checker.proofs.Right.{ok_fine, no_limit}
+use Rattle.checker.proofs.Right.{proper_fine}
 
 module _ (a x b y : ℕ) (z : Checked) where
-  pub first_short : x < a → with_room a x b y z ≡ Refused 1 0
+  pub first_short : x < a → with_room a x b y z ≡ Err Size
   unfolding with_room
   first_short h = rw (lt-leb a x h)
 
-  pub second_short : a ≤ x → y < b → with_room a x b y z ≡ Refused 1 0
+  pub second_short : a ≤ x → y < b → with_room a x b y z ≡ Err Size
   unfolding with_room
   second_short g h = rw (le-leb a x g, lt-leb b y h)
 
@@ -25,7 +25,7 @@ module _ (a x b y : ℕ) (z : Checked) where
   unfolding with_room
   roomy g h = rw (le-leb a x g, le-leb b y h)
 
-  pub has_room : with_room a x b y z ≡ Ok → (a ≤ x) × (b ≤ y) × (z ≡ Ok)
+  pub has_room : with_room a x b y z ≡ Ok tt → (a ≤ x) × (b ≤ y) × (z ≡ Ok tt)
   unfolding with_room
   has_room e =
       let (p, f) = passes SIZE (leb a x) (asks SIZE (leb b y) then z) e in
@@ -33,10 +33,10 @@ module _ (a x b y : ℕ) (z : Checked) where
       (leb-true a x p, leb-true b y q, g)
 
 -- a call with one buffer and no limit
-pub problem_taken : {a x : ℕ} (ws bs : List ℕ) → a ≤ x → refusal ws bs ≡ Ok → Taken a x ws bs
+pub problem_taken : {a x : ℕ} (ws bs : List ℕ) → a ≤ x → refusal ws bs ≡ Ok tt → Taken a x ws bs
 problem_taken ws bs h e =
-    let fine = ok_fine 0 ws bs (sym (no_limit ws bs) ∙ e) in
+    let fine = proper_fine ws bs e in
     record { sized = fine.sized; problem = fine.problem; room = h }
 
-pub taken : (a x : ℕ) (ws bs : List ℕ) → with_room a x 0 0 (refusal ws bs) ≡ Ok → Taken a x ws bs
+pub taken : (a x : ℕ) (ws bs : List ℕ) → with_room a x 0 0 (refusal ws bs) ≡ Ok tt → Taken a x ws bs
 taken a x ws bs e = let (h, k, ok) = has_room a x 0 0 (refusal ws bs) e in problem_taken ws bs h ok

@@ -1,5 +1,5 @@
 -- Each test says its demand: a word or rule passes just where it meets what is asked of it.
-use mathlib.Core.Path.{◌≡◌}
+use mathlib.Core.Path.{◌≡◌, refl}
 use mathlib.Core.Bool.{Bool, true, false, ◌||◌}
 use mathlib.Core.List.{List}
 use Prim.Native.Nat.{ℕ, ◌%◌, ◌≤◌, ◌<◌}
@@ -56,6 +56,20 @@ kind_met κ t = let (l, h) = one_to_lem kinds κ t in record { low = l; high = h
 
 pub met_kind : (κ : ℕ) → KindNumber κ → T (is_kind κ)
 met_kind κ h = to_one kinds κ h.low h.high
+
+pub kind_passes : (κ : ℕ) → KindNumber κ → is_kind κ ≡ true
+kind_passes κ h = passed (is_kind κ) (met_kind κ h)
+  where
+    passed : (b : Bool) → T b → b ≡ true
+    passed true t = refl
+    passed false t = absurd t
+
+pub kind_fails : (κ : ℕ) → ¬ KindNumber κ → is_kind κ ≡ false
+kind_fails κ n = failed (is_kind κ) (λ t. n (kind_met κ t))
+  where
+    failed : (b : Bool) → ¬ T b → b ≡ false
+    failed true t = absurd (t tt)
+    failed false t = refl
 
 -- ---- fields
 

@@ -1,4 +1,5 @@
 pub mod Demands
+pub mod Refusals
 pub mod Tests
 pub mod Refusal
 pub mod Promise

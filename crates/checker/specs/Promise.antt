@@ -1,10 +1,11 @@
 -- To be believed: what an answer of the check says: OK of a proper problem, a refusal of the first demand that is not met.
-use Rattle.std.specs.Prelude.{◌≡◌, List, ℕ, ◌≤◌}
+use Rattle.std.specs.Prelude.{◌≡◌, List, ℕ, ◌≤◌, Ok, Err}
 use Rattle.rules.specs.ProperProblem.{ProperProblem}
-use Rattle.checker.specs.declared.Checked.{Checked}
-use Rattle.checker.specs.declared.Checked.TheVariants.{Ok, Refused}
+use Rattle.checker.specs.declared.refusal.Refusal.{Refusal}
 use Rattle.problem.specs.Lent.{widths_of, table_of, rules_of}
-use Rattle.checker.specs.Demands.{Demand, number, place, Before, Sized, Met, most_guesses}
+use Rattle.checker.specs.Demands.{Demand, Before, Sized, Met, most_guesses}
+use Rattle.checker.specs.Refusals.{refusal_of}
+use Rattle.checker.specs.Refusal.{Checked}
 
 module _ (limit : ℕ) (ws bs : List ℕ) where
   -- the numbers stand for a proper problem, and none is left over
@@ -19,8 +20,8 @@ module _ (limit : ℕ) (ws bs : List ℕ) where
     pub earlier : (e : Demand) → Before e d → Met limit ws bs e
 
   pub data Right : Checked → Type 0 where
-    ok : Fine → Right Ok
-    refused : {n p : ℕ} (d : Demand) → number d ≡ n → place d ≡ p → FirstUnmet d → Right (Refused n p)
+    ok : Fine → Right (Ok tt)
+    refused : {r : Refusal} (d : Demand) → refusal_of d ≡ r → FirstUnmet d → Right (Err r)
 
 -- a proper problem, and as much lent as is needed
 pub record Taken (needed lent : ℕ) (ws bs : List ℕ) : Type 0 where

@@ -2,36 +2,18 @@
 #![tactic(auto)]
 
 mod fit;
+mod proper;
+mod refusal;
 mod rule;
 mod word;
 
 ghost use Rattle.std.specs.Prelude.{◌≡◌};
 ghost use Rattle.checker.specs.Tests.{sized, one_to};
-ghost use Rattle.checker.specs.Refusal.{refusal, refusal_with};
+ghost use Rattle.checker.specs.Refusal.{refusal, limit_refusal, refusal_with};
 
 use problem::{FIELDS, GUESSES, RULES, STRIDE, WORDS};
-
-// The numbers of the refusals.
-pub const SIZE: u64 = 1;
-
-pub const WIDTH: u64 = 4;
-
-pub const TABLE: u64 = 5;
-
-pub const KIND: u64 = 6;
-
-pub const FIELD: u64 = 7;
-
-pub const FIT: u64 = 8;
-
-pub const LIMIT: u64 = 9;
-
-// The answer: the problem is proper, or the number of the first refusal and its place.
-#[derive(Clone, Copy)]
-pub enum Checked {
-    Ok,
-    Refused(u64, u64),
-}
+pub use proper::Proper;
+pub use refusal::Refusal;
 
 // Whether x is 1 to m.
 fn one_to(m: u64, x: u64) -> bool
@@ -50,29 +32,30 @@ fn is_sized(words: &[u64], rules: &[u8]) -> bool
 }
 
 // The first refusal of a problem for a call that takes no limit.
-pub fn first_refusal(words: &[u64], rules: &[u8]) -> Checked
+pub fn first_refusal(words: &[u64], rules: &[u8]) -> Result<(), Refusal>
     ensures { result ≡ refusal words.now rules.now }
 {
     if !is_sized(words, rules) {
-        return Checked::Refused(SIZE, 0);
+        return Err(Refusal::Size);
     }
-    let x = word::words_refusal(words);
-    if let Checked::Refused(number, place) = x {
-        return Checked::Refused(number, place);
-    }
+    word::words_refusal(words)?;
     rule::rules_refusal(words, rules)
 }
 
-// Whether a problem is proper: OK, or the number of the first refusal in order, and its place.
-pub fn check(words: &[u64], rules: &[u8], limit: u32) -> Checked
+// The refusal of a limit.
+pub fn limit_refusal(limit: u32) -> Result<(), Refusal>
+    ensures { result ≡ limit_refusal limit }
+{
+    if limit > GUESSES {
+        return Err(Refusal::Limit);
+    }
+    Ok(())
+}
+
+// Whether a problem is proper: OK, or the first refusal in order.
+pub fn check(words: &[u64], rules: &[u8], limit: u32) -> Result<(), Refusal>
     ensures { result ≡ refusal_with limit words.now rules.now }
 {
-    let x = first_refusal(words, rules);
-    if let Checked::Refused(number, place) = x {
-        return Checked::Refused(number, place);
-    }
-    if limit > GUESSES {
-        return Checked::Refused(LIMIT, 0);
-    }
-    Checked::Ok
+    first_refusal(words, rules)?;
+    limit_refusal(limit)
 }

@@ -5,8 +5,8 @@ use Prim.Native.Nat.{ℕ, ◌+◌, ◌<◌, ◌≤◌}
 use native.Mathlib.Nat.{add-zero}
 use native.Mathlib.Numerals.{add-one}
 use native.Mathlib.Omega.{arith}
-use lib.ListN.{length, take, set, get_or, length-append, take-append-drop}
-use lib.Seq.{take-suc, set_split}
+use lib.ListN.{length, set, length-append, take-append-drop}
+use lib.Seq.{set_split}
 use Rattle.lists.proofs.Puts.{length_put, put_put}
 use Rattle.decimal.specs.Text.{decimal, spaced}
 use Rattle.lists.specs.Lists.{put, at}
@@ -31,11 +31,12 @@ appended_both {l} {xs} {m} {ys} {n} {at} {e} {r} f g =
       text = g.text ∙ ap (λ (t : List ℕ). put t e ys) f.text ∙ put_put l at e xs ys (sym f.ends) (omega (arith, g.ends, g.room, long));
     }
 
+pub spaced_none : spaced [] ≡ []
+unfolding spaced
+spaced_none = refl
+
 -- one more number
 pub spaced_more : (ns : List ℕ) (n : ℕ) → spaced (ns ++ (n ∷ [])) ≡ spaced ns ++ (32 ∷ decimal n)
 unfolding spaced
 spaced_more [] n = append-nil (32 ∷ decimal n)
 spaced_more (m ∷ ns) n = rw (spaced_more ns n) (sym (append_assoc (32 ∷ decimal m) (spaced ns) (32 ∷ decimal n)))
-
-pub spaced_take : (ns : List ℕ) (i : ℕ) → i < length ns → spaced (take (i + 1) ns) ≡ spaced (take i ns) ++ (32 ∷ decimal (get_or ns i 0))
-spaced_take ns i h = rw (add-one i, take-suc ns i 0 h, spaced_more)

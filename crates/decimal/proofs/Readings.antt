@@ -1,16 +1,15 @@
 -- What one turn of the loop that reads a number comes to, why it stops where it does, and that there is one reading.
-use mathlib.Core.Path.{◌≡◌, refl, sym, subst, ◌∙◌, ap}
+use mathlib.Core.Path.{◌≡◌, refl, sym, ◌∙◌, ap}
 use mathlib.Core.List.{List, [], ◌∷◌, ◌++◌, append_assoc}
-use Prim.Native.Nat.{ℕ, suc, ◌+◌, ◌*◌, ◌^◌, ◌≤◌, ◌<◌}
+use Prim.Native.Nat.{ℕ, suc, ◌+◌, ◌*◌, ◌^◌, ◌≤◌, ◌<◌, ◌-◌}
 use native.Mathlib.Numerals.{add-one}
 use native.Mathlib.Omega.{arith}
-use lib.ListN.{length, drop, get_or, length-append, length-drop, drop_of_length-le}
+use lib.ListN.{length, take, drop, get_or, length-append, length-drop, length-take}
 use lib.Seq.{drop-cons}
+use Rattle.std.proofs.Common.{Option, Some, None, get_or-take, get_or-drop}
 use Rattle.decimal.specs.Text.{decimal}
-use Rattle.decimal.specs.Digits.{Digit, digit_of, Stops}
-use Rattle.decimal.specs.declared.number.Number.{Number}
-use Rattle.decimal.specs.declared.number.Number.TheVariants as number
-use Rattle.decimal.specs.Reading.{NumberAt, NoNumber, IsNumber}
+use Rattle.decimal.specs.Digits.{Digit, digit_of}
+use Rattle.decimal.specs.Reading.{NoNumber, IsNumber}
 use Rattle.decimal.proofs.Decimals.{decimal_one, decimal_push}
 use Rattle.decimal.proofs.Values.{decimal_some}
 use Rattle.decimal.proofs.Apart.{decimal_first, number_goes, number_once}
@@ -23,6 +22,13 @@ pub record Begun (s : List ℕ) (at v e : ℕ) : Type 0 where
   pub within : e ≤ length s
   pub small : v < 2 ^ 64
   pub text : drop at s ≡ decimal v ++ drop e s
+
+-- a byte of what stands from a place on
+pub rest_byte : (s : List ℕ) (a i e : ℕ) → e ≡ a + i → i < length (take (length s - a) (drop a s))
+    → (e < length s) × (get_or (take (length s - a) (drop a s)) i 0 ≡ get_or s e 0)
+rest_byte s a i e q h =
+    let lt : i < length s - a = omega (arith, length-take (length s - a) (drop a s)) in
+    (omega arith, rw (get_or-take, get_or-drop, q))
 
 pub digit_first : (s : List ℕ) (at v : ℕ) → at < length s → v < 10 → get_or s at 0 ≡ 48 + v → Begun s at v (at + 1)
 digit_first s at v h small e =
@@ -37,17 +43,6 @@ digit_next {s} {at} {v} {e} d x h pos small is fits = record {
   text = x.text
       ∙ rw (add-one e, drop-cons s e 0 h, is, decimal_push v d pos small fits) (sym (append_assoc (decimal v) ((48 + d) ∷ []) (drop (suc e) s)));
 }
-
--- the number ends: no digit follows, or nothing does
-pub number_here : {s : List ℕ} {at v e : ℕ} → Begun s at v e → e < length s → 9 < digit_of (get_or s e 0) → NumberAt s at v e
-number_here {s} {at} {v} {e} x h not_one =
-    let stops : Stops (drop e s) = rw (drop-cons s e 0 h) (λ (d : Digit (get_or s e 0)). omega (arith, d.low, d.high)) in
-    record { after = x.after; within = x.within; small = x.small; text = x.text; stops = stops }
-
-pub number_end : {s : List ℕ} {at v e : ℕ} → Begun s at v e → length s ≤ e → NumberAt s at v e
-number_end {s} {at} {v} {e} x h =
-    let stops : Stops (drop e s) = subst Stops (sym (drop_of_length-le s h)) tt in
-    record { after = x.after; within = x.within; small = x.small; text = x.text; stops = stops }
 
 -- there is none
 pub none_past : (s : List ℕ) (at : ℕ) → length s ≤ at → NoNumber s at
@@ -68,12 +63,12 @@ none_more {s} {at} {v} {e} x h digit never w t a c q =
     never (p.0, omega (arith, p.1))
 
 -- two readings that the promise allows are equal
-pub read_once : (s : List ℕ) (at : ℕ) (x y : Number) → IsNumber s at x → IsNumber s at y → x ≡ y
-read_once s at (number.Is v e) (number.Is w f) a b =
+pub read_once : (s : List ℕ) (at : ℕ) (x y : Option (ℕ × ℕ)) → IsNumber s at x → IsNumber s at y → x ≡ y
+read_once s at (Some (v, e)) (Some (w, f)) a b =
     let p = number_once v w (drop e s) (drop f s) a.small b.small a.stops b.stops (sym a.text ∙ b.text) in
     let same = p.0 in
     let ends : e ≡ f = omega (arith, ap length p.1, length-drop e s, length-drop f s, a.within, b.within) in
     cc
-read_once s at (number.Is v e) number.Bad a b = absurd (b v (drop e s) a.small a.stops a.text)
-read_once s at number.Bad (number.Is w f) a b = absurd (a w (drop f s) b.small b.stops b.text)
-read_once s at number.Bad number.Bad a b = refl
+read_once s at (Some (v, e)) None a b = absurd (b v (drop e s) a.small a.stops a.text)
+read_once s at None (Some (w, f)) a b = absurd (a w (drop f s) b.small b.stops b.text)
+read_once s at None None a b = refl

@@ -1,7 +1,5 @@
 -- To be believed: what reading a number promises. What was read is the text of the number; where none is read there is none.
-use Rattle.std.specs.Prelude.{◌≡◌, List, ◌++◌, ℕ, ◌^◌, ◌≤◌, ◌<◌, length, drop}
-use Rattle.decimal.specs.declared.number.Number.{Number}
-use Rattle.decimal.specs.declared.number.Number.TheVariants as number
+use Rattle.std.specs.Prelude.{◌≡◌, List, ◌++◌, ℕ, ◌^◌, ◌≤◌, ◌<◌, length, drop, Option, Some, None}
 use Rattle.decimal.specs.Text.{decimal}
 use Rattle.decimal.specs.Digits.{Stops}
 
@@ -17,6 +15,6 @@ pub record NumberAt (s : List ℕ) (at v e : ℕ) : Type 0 where
 abbrev pub NoNumber : List ℕ → ℕ → Type 0
 NoNumber s at = (v : ℕ) (t : List ℕ) → v < 2 ^ 64 → Stops t → ¬ (drop at s ≡ decimal v ++ t)
 
-abbrev pub IsNumber : List ℕ → ℕ → Number → Type 0
-IsNumber s at (number.Is v e) = NumberAt s at v e
-IsNumber s at number.Bad = NoNumber s at
+abbrev pub IsNumber : List ℕ → ℕ → Option (ℕ × ℕ) → Type 0
+IsNumber s at (Some (v, e)) = NumberAt s at v e
+IsNumber s at None = NoNumber s at

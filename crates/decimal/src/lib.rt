@@ -13,10 +13,7 @@ pub fn put_bytes(out: &mut [u8], at: usize, s: &[u8]) -> usize
     requires { at + length s.now ≤ length out.old }
     ensures { Appended out.old at s.now out.new result }
 {
-    let mut i = 0;
-    while i < s.len() {
-        out[at + i] = s[i];
-        i += 1;
-    }
-    at + i
+    let e = at + s.len();
+    out[at..e].copy_from_slice(s);
+    e
 }

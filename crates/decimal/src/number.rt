@@ -1,59 +1,39 @@
 // Decimal numbers below 2^64, with as few digits as hold them, read and put.
-ghost use Rattle.std.specs.Prelude.{◌≡◌, ◌+◌, ◌*◌, ◌≤◌, ◌-◌, length};
+ghost use Rattle.std.specs.Prelude.{◌+◌, ◌*◌, ◌≤◌, ◌<◌, length, SomeIff};
 ghost use Rattle.decimal.specs.Digits.{digit_of};
-ghost use Rattle.decimal.specs.Text.{decimal, spaced};
+ghost use Rattle.decimal.specs.Text.{decimal};
 ghost use Rattle.decimal.specs.Reading.{IsNumber};
-ghost use Rattle.decimal.specs.Putting.{Appended};
+ghost use Rattle.decimal.specs.Putting.{Appended, RoomFor, Spaced};
 
 use crate::BLANK;
 
-// A number and where it ends; or there is none.
-#[derive(Clone, Copy)]
-pub enum Number {
-    Is(u64, usize),
-    Bad,
-}
-
-// What a byte stands for as a digit, 10 where it is none.
-fn digit(x: u8) -> u64
-    ensures { result ≡ digit_of x }
+// What a byte stands for as a digit, if it is one.
+fn digit(x: u8) -> Option<u64>
+    ensures { SomeIff result (digit_of x < 10) (digit_of x) }
 {
-    if x < 48 {
-        return 10;
+    match x {
+        b'0'..=b'9' => Some(u64::from(x - b'0')),
+        _ => None,
     }
-    if 57 < x {
-        return 10;
-    }
-    (x - 48) as u64
 }
 
-// The number that begins at `at`. A 0 in front of other digits is refused, and so is what does not fit 64 bits.
-pub fn read(s: &[u8], at: usize) -> Number
+// The number that begins at `at`, and where it ends, if there is one. A 0 in front of other digits is refused, and so is what does not fit 64 bits.
+pub fn read(s: &[u8], at: usize) -> Option<(u64, usize)>
     ensures { IsNumber s.now at result }
 {
-    if s.len() <= at {
-        return Number::Bad;
-    }
-    let mut v = digit(s[at]);
-    if 9 < v {
-        return Number::Bad;
-    }
+    let mut v = digit(*s.get(at)?)?;
     let mut e = at + 1;
-    while e < s.len() {
-        let d = digit(s[e]);
-        if 9 < d {
-            return Number::Is(v, e);
-        }
+    for &x in &s[e..] {
+        let Some(d) = digit(x) else {
+            break;
+        };
         if v == 0 {
-            return Number::Bad;
+            return None;
         }
-        if (u64::MAX - d) / 10 < v {
-            return Number::Bad;
-        }
-        v = v * 10 + d;
+        v = v.checked_mul(10)?.checked_add(d)?;
         e += 1;
     }
-    Number::Is(v, e)
+    Some((v, e))
 }
 
 // The digits of n put at `at`: where they end.
@@ -62,25 +42,25 @@ pub fn put(out: &mut [u8], at: usize, n: u64) -> usize
     ensures { Appended out.old at (decimal n) out.new result }
 {
     if n < 10 {
-        out[at] = 48 + n as u8;
+        out[at] = b'0' + n as u8;
         return at + 1;
     }
     let e = put(out, at, n / 10);
-    out[e] = 48 + (n % 10) as u8;
+    out[e] = b'0' + (n % 10) as u8;
     e + 1
 }
 
 // Each number put after a blank: where they end.
-pub fn put_all(out: &mut [u8], at: usize, numbers: &[u64]) -> usize
-    requires { at + 21 * length numbers.now ≤ length out.old }
-    ensures { Appended out.old at (spaced numbers.now) out.new result × (result ≤ at + 21 * length numbers.now) }
+pub fn put_all<T: Copy + Into<u64>>(out: &mut [u8], at: usize, numbers: &[T]) -> usize
+    requires { RoomFor T.converts out.old at numbers.now }
+    ensures text { Spaced T.converts out.old at numbers.now out.new result }
+    ensures end { result ≤ at + 21 * length numbers.now }
 {
-    let mut i = 0;
     let mut e = at;
-    while i < numbers.len() {
+    for &x in numbers {
+        let n = x.into();
         out[e] = BLANK;
-        e = put(out, e + 1, numbers[i]);
-        i += 1;
+        e = put(out, e + 1, n);
     }
     e
 }

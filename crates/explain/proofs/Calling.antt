@@ -4,12 +4,13 @@ use mathlib.Core.List.{List, []}
 use Prim.Native.Nat.{ℕ, ◌≤◌, ◌<◌}
 use native.Mathlib.Omega.{arith}
 use lib.ListN.{length}
-use Rattle.checker.specs.declared.Checked.TheVariants.{Ok, Refused}
+use Rattle.std.specs.Prelude.{Result, Ok, Err}
+use Rattle.checker.specs.declared.refusal.Refusal.{Refusal}
+use Rattle.checker.specs.declared.refusal.Refusal.TheVariants.{Size, Ask}
 use Rattle.problem.specs.Lent.{rule_count}
 use Rattle.checker.specs.Refusal.{refusal}
 use Rattle.checker.proofs.Rooms.{first_short, roomy}
-use Rattle.problem.specs.declared.Bounds.{Bounds}
-use Rattle.problem.specs.Places.{span_of}
+use Rattle.problem.specs.Places.{Bounds, span_of}
 use Rattle.reason_theory.specs.Says.{CONFLICT, FORCED, FREE, Says}
 use Rattle.reason_theory.specs.Reason.{no_reason, with_reason}
 use Rattle.explain.specs.declared.Question.{Question}
@@ -48,22 +49,26 @@ module _ (q : Question) (t : Bounds) {x : Said} (s : Says (shape_in q) (span_of 
     }
 
 -- a rule that is not there
-pub rule_refused : {ws bs l : List ℕ} (n p j : ℕ) → rule_count bs ≤ n → Judged ws bs n p j l (explained.Refused 10 0) l
+pub rule_refused : {ws bs l : List ℕ} (n p j : ℕ) → rule_count bs ≤ n → Judged ws bs n p j l (Err Ask) l
 rule_refused n p j h = not_asked (λ a. omega (arith, a.there))
+
+-- and a number that is no place's
+pub place_refused : {ws bs l : List ℕ} (n p j : ℕ) → 3 < p → Judged ws bs n p j l (Err Ask) l
+place_refused n p j h = not_asked (λ a. omega (arith, a.open_bit.place))
 
 -- ---- the refusals before the question
 
 module _ (ws bs l : List ℕ) (n p j : ℕ) where
-  pub short_refused : length l < entries → Explaining ws bs n p j l (explained.Refused 1 0) l
+  pub short_refused : length l < entries → Explaining ws bs n p j l (Err Size) l
   unfolding explain_refusal
   short_refused h = refused (first_short entries (length l) 0 0 (refusal ws bs) h)
 
-  pub problem_refused : {number place : ℕ} → entries ≤ length l → refusal ws bs ≡ Refused number place
-      → Explaining ws bs n p j l (explained.Refused number place) l
+  pub problem_refused : {r : Refusal} → entries ≤ length l → refusal ws bs ≡ Err r
+      → Explaining ws bs n p j l (Err r) l
   unfolding explain_refusal
   problem_refused h e = refused (roomy entries (length l) 0 0 (refusal ws bs) h (omega arith) ∙ e)
 
-  pub problem_judged : {r : Explained} {m : List ℕ} → entries ≤ length l → refusal ws bs ≡ Ok → Judged ws bs n p j l r m
+  pub problem_judged : {r : Result Explained Refusal} {m : List ℕ} → entries ≤ length l → refusal ws bs ≡ Ok tt → Judged ws bs n p j l r m
       → Explaining ws bs n p j l r m
   unfolding explain_refusal
   problem_judged h e d = judged (roomy entries (length l) 0 0 (refusal ws bs) h (omega arith) ∙ e) d

@@ -8,6 +8,8 @@ use Rattle.rules.specs.Kinds.{Place}
 use Rattle.rules.specs.Meaning.{Shape}
 use Rattle.rules.specs.Fits.{Span}
 use Rattle.reason_theory.proofs.One.{one_explanation}
+use Rattle.std.specs.Prelude.{Result, Ok}
+use Rattle.checker.specs.declared.refusal.Refusal.{Refusal}
 use Rattle.explain.specs.declared.Explained.{Explained}
 use Rattle.explain.specs.Dropping.{reason_put}
 use Rattle.explain.specs.Promise.{given, Explanation, Judged, not_asked, answered, Explaining, refused, judged}
@@ -21,14 +23,14 @@ given_once {l = l} g h =
     )
 
 module _ {ws bs : List ℕ} {n p j : ℕ} {l : List ℕ} where
-  judged_once : {x y : Explained} {m k : List ℕ} → Judged ws bs n p j l x m → Judged ws bs n p j l y k → (x ≡ y) × (m ≡ k)
+  judged_once : {x y : Result Explained Refusal} {m k : List ℕ} → Judged ws bs n p j l x m → Judged ws bs n p j l y k → (x ≡ y) × (m ≡ k)
   judged_once (not_asked a) (not_asked b) = (refl, refl)
   judged_once (not_asked a) (answered b h) = absurd (a b)
   judged_once (answered a g) (not_asked b) = absurd (b a)
-  judged_once (answered a g) (answered b h) = given_once g h
+  judged_once (answered a g) (answered b h) = let (e, f) = given_once g h in (ap (λ z. Ok z) e, f)
 
 module _ {ws bs : List ℕ} {n p j : ℕ} {l : List ℕ} where
-  pub explain_once : {x y : Explained} {m k : List ℕ} → Explaining ws bs n p j l x m → Explaining ws bs n p j l y k → (x ≡ y) × (m ≡ k)
+  pub explain_once : {x y : Result Explained Refusal} {m k : List ℕ} → Explaining ws bs n p j l x m → Explaining ws bs n p j l y k → (x ≡ y) × (m ≡ k)
   explain_once (refused a) (refused b) = (cc, refl)
   explain_once (refused a) (judged b d) = absurd (refused_not_ok a b)
   explain_once (judged a d) (refused b) = absurd (refused_not_ok b a)

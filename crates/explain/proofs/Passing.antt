@@ -11,18 +11,15 @@ use Rattle.words.specs.Bits.{bit}
 use Rattle.rules.specs.Kinds.{Place}
 use Rattle.rules.specs.Meaning.{Shape}
 use Rattle.rules.specs.Fits.{Span, Legal}
-use Rattle.problem.specs.declared.Bounds.{Bounds}
-use Rattle.problem.specs.Places.{lo_of, hi_of, span_of}
+use Rattle.problem.specs.Places.{Bounds, lo_of, hi_of, span_of}
 use Rattle.reason_theory.specs.Says.{Answer, Says}
-use Rattle.reason_theory.specs.Reason.{Spot, spot, entry, opened, Reason, all_seen, dropped, kept, fixed_bit}
+use Rattle.reason_theory.specs.Reason.{Spot, spot, place_no, entry, opened, Reason, all_seen, dropped, kept, fixed_bit}
 use Rattle.reason_theory.proofs.Opened.{opened_legal}
 use Rattle.explain.specs.declared.Question.{Question}
 use Rattle.explain.specs.declared.Said.{Said}
 use Rattle.explain.specs.declared.Kept.{Kept}
-use Rattle.explain.specs.Places.{place_of}
 use Rattle.explain.specs.Asking.{shape_in, place_in, answer, Asks}
 use Rattle.explain.specs.Dropping.{spot_at, Passed, Gone, BitAsked}
-use Rattle.explain.proofs.PlaceNumbers.{place_number}
 
 -- ---- over the bounds
 
@@ -73,55 +70,55 @@ module _ {q : Question} {x : Said} where
 -- ---- one bit
 
 -- what is known of bit b of place p once both bounds g were looked at
-pub record Looked (q : Question) (g : Bounds) (s : Kept) (p b : ℕ) (l : List ℕ) (lo hi : ℕ) : Type 0 where
+pub record Looked (q : Question) (g : Bounds) (s : Kept) (p : Place) (b : ℕ) (l : List ℕ) (lo hi : ℕ) : Type 0 where
   pub asked : BitAsked q g s p b l
-  pub low : lo ≡ bit (lo_of g (place_of p)) b
-  pub high : hi ≡ bit (hi_of g (place_of p)) b
+  pub low : lo ≡ bit (lo_of g p) b
+  pub high : hi ≡ bit (hi_of g p) b
 
-module _ {q : Question} {g : Bounds} {s : Kept} {p b : ℕ} {l : List ℕ} {lo hi : ℕ} (k : Looked q g s p b l lo hi) where
-  spot_none : lo ≢ hi → spot_at (span_of g) (place_of p) b ≡ []
+module _ {q : Question} {g : Bounds} {s : Kept} {p : Place} {b : ℕ} {l : List ℕ} {lo hi : ℕ} (k : Looked q g s p b l lo hi) where
+  spot_none : lo ≢ hi → spot_at (span_of g) p b ≡ []
   unfolding fixed_bit
-  spot_none d = rw (ne_eqb (bit (lo_of g (place_of p)) b) (bit (hi_of g (place_of p)) b) (λ e. d (k.low ∙ e ∙ sym k.high)))
+  spot_none d = rw (ne_eqb (bit (lo_of g p) b) (bit (hi_of g p) b) (λ e. d (k.low ∙ e ∙ sym k.high)))
 
-  spot_one : lo ≡ hi → spot_at (span_of g) (place_of p) b ≡ spot (place_of p) b ∷ []
+  spot_one : lo ≡ hi → spot_at (span_of g) p b ≡ spot p b ∷ []
   unfolding fixed_bit
-  spot_one e = rw (eq-eqb (bit (lo_of g (place_of p)) b) (bit (hi_of g (place_of p)) b) (sym k.low ∙ e ∙ k.high))
+  spot_one e = rw (eq-eqb (bit (lo_of g p) b) (bit (hi_of g p) b) (sym k.low ∙ e ∙ k.high))
 
   -- an open bit is not gone through
-  pub open_passed : {x : Said} → lo ≢ hi → Gone q x (spot_at (span_of g) (place_of p) b) s l s l
+  pub open_passed : {x : Said} → lo ≢ hi → Gone q x (spot_at (span_of g) p b) s l s l
   open_passed d = rw (spot_none d) (gone_none l k.asked.asks.legal)
 
   pub has_room : lo ≡ hi → s.count < length l
   has_room e =
-      let r : s.count + length (spot (place_of p) b ∷ []) ≤ length l = rw (spot_one e) at k.asked.room in
+      let r : s.count + length (spot p b ∷ []) ≤ length l = rw (spot_one e) at k.asked.room in
       omega arith
 
-  module _ (same : lo ≡ hi) (u : Bounds) (eu : span_of u ≡ opened (span_of s.t) (place_of p) b) where
+  module _ (same : lo ≡ hi) (u : Bounds) (eu : span_of u ≡ opened (span_of s.t) p b) where
     wider : Legal (shape_in q) (span_of u)
-    wider = rw eu (opened_legal (place_of p) b k.asked.asks.legal k.asked.below)
+    wider = rw eu (opened_legal p b k.asked.asks.legal k.asked.below)
 
     -- the rule may be asked with the bit open
     pub wider_asks : Asks q u
-    wider_asks = record { kind = k.asked.asks.kind; legal = wider; used = k.asked.asks.used; small = k.asked.asks.small }
+    wider_asks = record { legal = wider; used = k.asked.asks.used; small = k.asked.asks.small }
 
     pub bit_dropped : {x : Said} → Says (shape_in q) (span_of u) (place_in q) q.bit (answer x)
-        → Gone q x (spot_at (span_of g) (place_of p) b) s l (record { t = u; count = s.count }) l
+        → Gone q x (spot_at (span_of g) p b) s l (record { t = u; count = s.count }) l
     bit_dropped h = rw (spot_one same) (record {
       out = [];
-      passed = passed_dropped (place_of p) b eu h;
+      passed = passed_dropped p b eu h;
       count = omega arith;
       list = refl;
       few = omega arith;
       legal = wider;
     })
 
-    pub bit_kept : {x : Said} → ¬ Says (shape_in q) (span_of u) (place_in q) q.bit (answer x)
-        → Gone q x (spot_at (span_of g) (place_of p) b) s l (record { t = s.t; count = s.count + 1 }) (set l s.count (64 * p + b))
-    bit_kept d = rw (spot_one same) (record {
-      out = entry (place_of p) b ∷ [];
-      passed = passed_kept (place_of p) b eu d;
+    pub bit_kept : {x : Said} (n : ℕ) → n ≡ place_no p → ¬ Says (shape_in q) (span_of u) (place_in q) q.bit (answer x)
+        → Gone q x (spot_at (span_of g) p b) s l (record { t = s.t; count = s.count + 1 }) (set l s.count (64 * n + b))
+    bit_kept n e d = rw (spot_one same) (record {
+      out = entry p b ∷ [];
+      passed = passed_kept p b eu d;
       count = omega arith;
-      list = rw (place_number p k.asked.place);
+      list = rw e;
       few = omega arith;
       legal = k.asked.asks.legal;
     })

@@ -1,38 +1,43 @@
--- The places of a rule by their numbers: the last one, the fields of a rule, and entries; and a bit of what stands at a place.
+-- The places of a rule by their numbers; and a bit of what stands at a place.
 use mathlib.Core.Path.{◌≡◌, refl, ap, ◌∙◌}
-use mathlib.Core.Logic.{◌≢◌}
-use Prim.Native.Nat.{ℕ, zero, suc, ◌+◌, ◌≤◌}
+use mathlib.Core.List.{[], ◌∷◌}
+use Prim.Native.Nat.{ℕ, zero, suc, ◌≤◌, ◌<◌}
 use native.Mathlib.Omega.{arith}
+use lib.ListN.{get_or}
 use Rattle.words.specs.Bits.{bit}
-use Rattle.rules.specs.Kinds.{S, Kind}
-use Rattle.rules.specs.Rows.{uses}
-use Rattle.problem.specs.Rows.{uses_field}
+use Rattle.problem.specs.declared.kinds.Place.{Place}
+use Rattle.problem.specs.declared.kinds.Place.TheVariants as place
+use Rattle.problem.specs.Named.{place_named, place_number}
 use Rattle.reason_theory.specs.Reason.{place_no}
 use Rattle.explain.specs.Places.{last, place_of}
 
-pub last_place : (p : ℕ) → p ≢ 0 → p ≢ 1 → p ≢ 2 → place_of p ≡ S
+pub named : (p : Place) → place_of (place_number p) ≡ place_named p
 unfolding place_of
-last_place zero a b c = absurd (a refl)
-last_place (suc zero) a b c = absurd (b refl)
-last_place (suc (suc zero)) a b c = absurd (c refl)
-last_place (suc (suc (suc p))) a b c = refl
+named place.R = refl
+named place.A = refl
+named place.B = refl
+named place.S = refl
 
--- the field of a rule in which the word of a place stands is the next one, since the kind stands before r
-pub place_field : (κ : Kind) (p : ℕ) → p ≤ last → uses_field κ (p + 1) ≡ uses κ (place_of p)
-unfolding place_of
-place_field κ zero l = refl
-place_field κ (suc zero) l = refl
-place_field κ (suc (suc zero)) l = refl
-place_field κ (suc (suc (suc zero))) l = refl
-place_field κ (suc (suc (suc (suc p)))) l = absurd (omega arith)
+pub to_last : (p : Place) → place_number p ≤ last
+to_last place.R = omega arith
+to_last place.A = omega arith
+to_last place.B = omega arith
+to_last place.S = omega arith
 
-pub place_number : (p : ℕ) → p ≤ last → place_no (place_of p) ≡ p
+pub number_listed : (p : Place) → place_number p ≡ place_no (place_named p)
+number_listed place.R = refl
+number_listed place.A = refl
+number_listed place.B = refl
+number_listed place.S = refl
+
+-- the places in order
+pub nth_place : (n : ℕ) → n < 4 → place_of n ≡ place_named (get_or (place.R ∷ place.A ∷ place.B ∷ place.S ∷ []) n place.R)
 unfolding place_of
-place_number zero l = refl
-place_number (suc zero) l = refl
-place_number (suc (suc zero)) l = refl
-place_number (suc (suc (suc zero))) l = refl
-place_number (suc (suc (suc (suc p)))) l = absurd (omega arith)
+nth_place zero l = refl
+nth_place (suc zero) l = refl
+nth_place (suc (suc zero)) l = refl
+nth_place (suc (suc (suc zero))) l = refl
+nth_place (suc (suc (suc (suc n)))) l = absurd (omega arith)
 
 -- a bit x of the number m that was read, where n stands
 pub bit_at : {m n x : ℕ} (b : ℕ) → m ≡ n → x ≡ bit m b → x ≡ bit n b

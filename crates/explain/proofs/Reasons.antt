@@ -12,7 +12,7 @@ use Rattle.rules.specs.Meaning.{Shape}
 use Rattle.rules.specs.Fits.{Span}
 use Rattle.rules.specs.Tight.{rule, shape, span}
 use Rattle.rules.proofs.ProperRules.{rule_legal}
-use Rattle.checker.specs.declared.Checked.TheVariants.{Ok}
+use Rattle.std.specs.Prelude.{Ok}
 use Rattle.problem.specs.Lent.{widths_of, table_of, rules_of}
 use Rattle.lists.proofs.Series.{length_series}
 use Rattle.reason_theory.specs.Says.{Answer, CONFLICT, FORCED, FREE, Says}
@@ -24,7 +24,7 @@ use Rattle.explain.specs.declared.Explained.{Explained}
 use Rattle.explain.specs.declared.Explained.TheVariants as explained
 use Rattle.explain.specs.Places.{place_of}
 use Rattle.explain.specs.Dropping.{reason_put}
-use Rattle.explain.specs.Promise.{entries, given, Explanation, Tells, tells_conflict, tells_forced, Judged, not_asked, answered, Explaining, refused}
+use Rattle.explain.specs.Promise.{entries, given, Explanation, Tells, tells_conflict, tells_forced, Judged, answered, Explaining}
 use Rattle.explain.specs.Promise.{judged, explain_refusal, Listing}
 use Rattle.checker.proofs.Rooms.{taken}
 
@@ -37,19 +37,13 @@ told_given CONFLICT k tells_forced e = let z : ◌≡◌ {A = ℕ} 0 1 = cc in a
 told_given (FORCED b) k tells_forced e = (cc, cc)
 told_given FREE k tells_forced e = let z : ◌≡◌ {A = ℕ} 0 1 = cc in absurd (omega arith)
 
--- a refusal tells none
-refused_tells : {number place : ℕ} {x : Answer} {c : ℕ} → Tells (explained.Refused number place) x c → ⊥
-refused_tells h = elim h [ ]
-
-not_refused : (ws bs l : List ℕ) → explain_refusal ws bs l ≡ Ok → Taken entries (length l) ws bs
+not_refused : (ws bs l : List ℕ) → explain_refusal ws bs l ≡ Ok tt → Taken entries (length l) ws bs
 unfolding explain_refusal
 not_refused ws bs l e = taken entries (length l) ws bs e
 
 module _ {ws bs : List ℕ} {n p j : ℕ} {l : List ℕ} where
-  pub listing : {m : List ℕ} {r : Explained} {x : Answer} {c : ℕ} → Explaining ws bs n p j l r m → Tells r x c
+  pub listing : {m : List ℕ} {r : Explained} {x : Answer} {c : ℕ} → Explaining ws bs n p j l (Ok r) m → Tells r x c
       → Listing (shape (widths_of ws) (rule (rules_of bs) n)) (span (table_of ws) (rule (rules_of bs) n)) (place_of p) j x c l m
-  listing (refused e) h = absurd (refused_tells h)
-  listing (judged e (not_asked a)) h = absurd (refused_tells h)
   listing {m} {c = c} (judged e (answered a g)) h =
       let (ex, ec) = told_given g.answer (length g.out) h g.told in
       let taken : Taken entries (length l) ws bs = not_refused ws bs l e in
@@ -61,7 +55,7 @@ module _ {ws bs : List ℕ} {n p j : ℕ} {l : List ℕ} where
         rest = rw (g.stands, ec) (drop_at g.out (drop c l) c ec);
       }
 
-  module _ {m : List ℕ} {r : Explained} {x : Answer} {c : ℕ} (e : Explaining ws bs n p j l r m) (h : Tells r x c) where
+  module _ {m : List ℕ} {r : Explained} {x : Answer} {c : ℕ} (e : Explaining ws bs n p j l (Ok r) m) (h : Tells r x c) where
     abbrev σ : Shape
     σ = shape (widths_of ws) (rule (rules_of bs) n)
 
@@ -97,9 +91,9 @@ given_free {l = l} g =
     let none : g.out ≡ [] = free_reason (rw (told_free g.answer (length g.out) g.told) at g.explains) in
     g.stands ∙ ap (λ (w : List ℕ). reason_put w l) none
 
-judged_free : {ws bs : List ℕ} {n p j : ℕ} {l m : List ℕ} → Judged ws bs n p j l explained.Free m → m ≡ l
+judged_free : {ws bs : List ℕ} {n p j : ℕ} {l m : List ℕ} → Judged ws bs n p j l (Ok explained.Free) m → m ≡ l
 judged_free (answered a g) = given_free g
 
 -- the list stays as it was
-pub free_unchanged : {ws bs : List ℕ} {n p j : ℕ} {l m : List ℕ} → Explaining ws bs n p j l explained.Free m → m ≡ l
+pub free_unchanged : {ws bs : List ℕ} {n p j : ℕ} {l m : List ℕ} → Explaining ws bs n p j l (Ok explained.Free) m → m ≡ l
 free_unchanged (judged e d) = judged_free d

@@ -1,23 +1,23 @@
 -- The places of a rule gone through: the fixed bits of one place bit by bit, then the four places, after which the list holds the reason.
 use mathlib.Core.Path.{◌≡◌, sym, ap, ◌∙◌}
 use mathlib.Core.Bool.{true, false}
-use mathlib.Core.List.{List, ◌++◌, append_assoc, append-nil}
+use mathlib.Core.List.{List, [], ◌++◌, append_assoc, append-nil}
 use Prim.Native.Nat.{ℕ, zero, suc, ◌+◌, ◌≤◌, ◌<◌, ◌-◌}
 use native.Mathlib.Nat.{zero-add}
+use Rattle.std.proofs.Common.{add-one, add-zero}
 use native.Mathlib.Omega.{arith}
 use lib.ListN.{length, length-append}
 use lib.Seq.{length-sets, sets-eq}
 use Rattle.rules.specs.Kinds.{Place}
-use Rattle.problem.specs.Places.{width_of, span_of}
+use Rattle.problem.specs.Places.{Bounds, width_of, span_of}
 use Rattle.rules.specs.Rows.{uses}
 use Rattle.rules.specs.Fits.{Span}
-use Rattle.problem.specs.declared.Bounds.{Bounds}
 use Rattle.reason_theory.specs.Reason.{Spot, fixed_from, fixed_at, fixed_of}
 use Rattle.reason_theory.proofs.Rising.{fixed_length}
 use Rattle.explain.specs.declared.Question.{Question}
 use Rattle.explain.specs.declared.Said.{Said}
 use Rattle.explain.specs.declared.Kept.{Kept}
-use Rattle.explain.specs.Places.{last, place_of}
+use Rattle.explain.specs.Places.{place_of}
 use Rattle.explain.specs.Asking.{shape_in, Asks}
 use Rattle.explain.specs.Dropping.{spot_at, Gone, BitAsked, PlaceAsked, Reasoned}
 use Rattle.explain.specs.Promise.{entries}
@@ -56,35 +56,34 @@ gone_length {s = s} {l = l} g = ap length g.list ∙ length-sets l s.count g.out
 
 -- ---- one place
 
-module _ {q : Question} {g : Bounds} {s : Kept} {p : ℕ} {l : List ℕ} (asked : PlaceAsked q g s p l) where
+module _ {q : Question} {g : Bounds} {s : Kept} {p : Place} {l : List ℕ} (asked : PlaceAsked q g s p l) where
   -- a place that the rule does not use has no bits to go through
-  pub place_skipped : {x : Said} → uses (shape_in q).kind (place_of p) ≡ false → Gone q x (fixed_at (shape_in q) (span_of g) (place_of p)) s l s l
+  pub place_skipped : {x : Said} → uses (shape_in q).kind p ≡ false → Gone q x (fixed_at (shape_in q) (span_of g) p) s l s l
   unfolding fixed_at
   place_skipped e = rw e (gone_none l asked.asks.legal)
 
-  pub place_start : {x : Said} → Gone q x (fixed_from (span_of g) (place_of p) 0 0) s l s l
+  pub place_start : {x : Said} → Gone q x (fixed_from (span_of g) p 0 0) s l s l
   unfolding fixed_from
   place_start = gone_none l asked.asks.legal
 
-  module _ {x : Said} {r : Kept} {m : List ℕ} (b : ℕ) (h : Gone q x (fixed_from (span_of g) (place_of p) 0 b) s l r m) where
-    pub place_step : {v : Kept} {k : List ℕ} → Gone q x (spot_at (span_of g) (place_of p) b) r m v k
-        → Gone q x (fixed_from (span_of g) (place_of p) 0 (b + 1)) s l v k
-    place_step d = rw (from_more (span_of g) (place_of p) b) (gone_then h d)
+  module _ {x : Said} {r : Kept} {m : List ℕ} (b : ℕ) (h : Gone q x (fixed_from (span_of g) p 0 b) s l r m) where
+    pub place_step : {v : Kept} {k : List ℕ} → Gone q x (spot_at (span_of g) p b) r m v k
+        → Gone q x (fixed_from (span_of g) p 0 (b + 1)) s l v k
+    place_step d = rw (from_more (span_of g) p b) (gone_then h d)
 
-    module _ (u : uses (shape_in q).kind (place_of p) ≡ true) (w : ℕ) (ew : w ≡ width_of q.w (place_of p)) where
+    module _ (u : uses (shape_in q).kind p ≡ true) (w : ℕ) (ew : w ≡ width_of q.w p) where
       pub place_bit : b < w → b < 64 → BitAsked q g r p b m
       unfolding fixed_at
       place_bit i j = record {
-        asks = record { kind = asked.asks.kind; legal = h.legal; used = asked.asks.used; small = asked.asks.small };
-        place = asked.place;
+        asks = record { legal = h.legal; used = asked.asks.used; small = asked.asks.small };
         below = rw ew at i;
         small = j;
         room =
-            let room : s.count + length (fixed_from (span_of g) (place_of p) 0 (width_of q.w (place_of p))) ≤ length l = rw u at asked.room in
-            omega (arith, from_room (span_of g) (place_of p) b (width_of q.w (place_of p)) (rw ew at i), h.count, h.few, gone_length h);
+            let room : s.count + length (fixed_from (span_of g) p 0 (width_of q.w p)) ≤ length l = rw u at asked.room in
+            omega (arith, from_room (span_of g) p b (width_of q.w p) (rw ew at i), h.count, h.few, gone_length h);
       }
 
-      pub place_end : b ≡ w → Gone q x (fixed_at (shape_in q) (span_of g) (place_of p)) s l r m
+      pub place_end : b ≡ w → Gone q x (fixed_at (shape_in q) (span_of g) p) s l r m
       unfolding fixed_at
       place_end e = rw (u, ← ew, ← e) h
 
@@ -93,38 +92,54 @@ module _ {q : Question} {g : Bounds} {s : Kept} {p : ℕ} {l : List ℕ} (asked 
 abbrev pub begun : Bounds → Kept
 begun t = record { t = t; count = 0 }
 
--- the fixed bits of place number p
-abbrev pub bits : Question → Bounds → ℕ → List Spot
-bits q t p = fixed_at (shape_in q) (span_of t) (place_of p)
+-- the fixed bits of the first n places
+unfoldable pub bits : Question → Bounds → ℕ → List Spot
+bits q t zero = []
+bits q t (suc n) = bits q t n ++ fixed_at (shape_in q) (span_of t) (place_of n)
 
-module _ {q : Question} {t : Bounds} (asks : Asks q t) where
-  four : fixed_of (shape_in q) (span_of t) ≡ ((bits q t 0 ++ bits q t 1) ++ bits q t 2) ++ bits q t 3
-  unfolding fixed_of place_of
+module _ (q : Question) (t : Bounds) where
+  bits_more : (n : ℕ) → bits q t (n + 1) ≡ bits q t n ++ fixed_at (shape_in q) (span_of t) (place_of n)
+  unfolding bits
+  bits_more n = rw add-one
+
+  four : fixed_of (shape_in q) (span_of t) ≡ bits q t 4
+  unfolding fixed_of place_of bits
   four = simp append_assoc
 
-  pub enough : length (bits q t 0) + (length (bits q t 1) + (length (bits q t 2) + length (bits q t 3))) ≤ entries
-  enough = omega (arith, simp (four, length-append) at (fixed_length asks.legal))
+  -- with each place there are no fewer
+  rising : (n m : ℕ) → length (bits q t n) ≤ length (bits q t (n + m))
+  rising n zero = rw add-zero (omega arith)
+  rising n (suc m) =
+      let e : n + suc m ≡ n + m + 1 = omega arith in
+      rw (e, bits_more (n + m), length-append) (omega (arith, rising n m))
+
+  below : (n m : ℕ) → n ≤ m → length (bits q t n) ≤ length (bits q t m)
+  below n m l = let e : m ≡ n + (m - n) = omega arith in rw e (rising n (m - n))
 
 module _ {q : Question} {t : Bounds} (asks : Asks q t) {l : List ℕ} (room : entries ≤ length l) where
-  pub first_asked : PlaceAsked q t (begun t) 0 l
-  first_asked = record { asks = asks; place = omega arith; room = omega (arith, enough asks) }
+  pub none_gone : {x : Said} → Gone q x (bits q t 0) (begun t) l (begun t) l
+  unfolding bits
+  none_gone = gone_none l asks.legal
 
-  pub next_asked : {x : Said} {ns : List Spot} {r : Kept} {m : List ℕ} (p : ℕ) → p ≤ last → length ns + length (bits q t p) ≤ entries
-      → Gone q x ns (begun t) l r m → PlaceAsked q t r p m
-  next_asked p k e g = record {
-    asks = record { kind = asks.kind; legal = g.legal; used = asks.used; small = asks.small };
-    place = k;
-    room = omega (arith, g.count, g.few, gone_length g);
-  }
+  module _ {x : Said} {r : Kept} {m : List ℕ} (n : ℕ) (p : Place) (at : place_of n ≡ p) (g : Gone q x (bits q t n) (begun t) l r m) where
+    pub next_asked : n < 4 → PlaceAsked q t r p m
+    next_asked k = record {
+      asks = record { legal = g.legal; used = asks.used; small = asks.small };
+      room =
+          let e = rw (bits_more q t n, length-append, at) at (below q t (n + 1) 4 (omega arith)) in
+          omega (arith, e, g.count, g.few, gone_length g, rw (four q t) at (fixed_length asks.legal));
+    }
 
-  pub all_gone : {x : Said} {r : Kept} {m : List ℕ} → Gone q x (((bits q t 0 ++ bits q t 1) ++ bits q t 2) ++ bits q t 3) (begun t) l r m
-      → Reasoned q x t l r.count m
+    pub next_gone : {v : Kept} {k : List ℕ} → Gone q x (fixed_at (shape_in q) (span_of t) p) r m v k → Gone q x (bits q t (n + 1)) (begun t) l v k
+    next_gone d = rw (bits_more q t n, at) (gone_then g d)
+
+  pub all_gone : {x : Said} {r : Kept} {m : List ℕ} → Gone q x (bits q t 4) (begun t) l r m → Reasoned q x t l r.count m
   all_gone g =
       let few = g.few in
-      let all : length (((bits q t 0 ++ bits q t 1) ++ bits q t 2) ++ bits q t 3) ≤ entries = simp length-append (omega (arith, enough asks)) in
+      let all = rw (four q t) at (fixed_length asks.legal) in
       record {
         out = g.out;
-        reason = rw (four asks) (passed_reason g.passed);
+        reason = rw (four q t) (passed_reason g.passed);
         count = g.count ∙ zero-add (length g.out);
         list = g.list ∙ sets-eq g.out l 0 (omega arith) ∙ rw (zero-add (length g.out));
       }

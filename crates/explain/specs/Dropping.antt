@@ -3,16 +3,14 @@
 use Rattle.std.specs.Prelude.{◌≡◌, cond, List, [], ◌∷◌, ◌++◌, ℕ, ◌+◌, ◌≤◌, ◌<◌, length, drop}
 use Rattle.std.proofs.lemmas.List.Edits.{sets}
 use Rattle.rules.specs.Kinds.{Place}
-use Rattle.problem.specs.Places.{width_of, span_of}
+use Rattle.problem.specs.Places.{Bounds, width_of, span_of}
 use Rattle.rules.specs.Meaning.{Shape}
 use Rattle.rules.specs.Fits.{Span, Legal}
-use Rattle.problem.specs.declared.Bounds.{Bounds}
 use Rattle.reason_theory.specs.Says.{Answer}
 use Rattle.reason_theory.specs.Reason.{Spot, spot, Reason, fixed_bit, fixed_at, fixed_of}
 use Rattle.explain.specs.declared.Question.{Question}
 use Rattle.explain.specs.declared.Said.{Said}
 use Rattle.explain.specs.declared.Kept.{Kept}
-use Rattle.explain.specs.Places.{last, place_of}
 use Rattle.explain.specs.Asking.{shape_in, place_in, answer, Asks}
 
 -- bit b of place p, if it is fixed
@@ -33,18 +31,16 @@ pub record Gone (q : Question) (x : Said) (ns : List Spot) (s : Kept) (l : List 
   pub legal : Legal (shape_in q) (span_of r.t)
 
 -- what is known before bit b of place p is gone through
-pub record BitAsked (q : Question) (g : Bounds) (s : Kept) (p b : ℕ) (l : List ℕ) : Type 0 where
+pub record BitAsked (q : Question) (g : Bounds) (s : Kept) (p : Place) (b : ℕ) (l : List ℕ) : Type 0 where
   pub asks : Asks q s.t
-  pub place : p ≤ last
-  pub below : b < width_of q.w (place_of p)
+  pub below : b < width_of q.w p
   pub small : b < 64
-  pub room : s.count + length (spot_at (span_of g) (place_of p) b) ≤ length l
+  pub room : s.count + length (spot_at (span_of g) p b) ≤ length l
 
 -- and before all of place p
-pub record PlaceAsked (q : Question) (g : Bounds) (s : Kept) (p : ℕ) (l : List ℕ) : Type 0 where
+pub record PlaceAsked (q : Question) (g : Bounds) (s : Kept) (p : Place) (l : List ℕ) : Type 0 where
   pub asks : Asks q s.t
-  pub place : p ≤ last
-  pub room : s.count + length (fixed_at (shape_in q) (span_of g) (place_of p)) ≤ length l
+  pub room : s.count + length (fixed_at (shape_in q) (span_of g) p) ≤ length l
 
 -- the list l with the entries out at its beginning, the rest unchanged
 abbrev pub reason_put : List ℕ → List ℕ → List ℕ

@@ -1,13 +1,13 @@
 -- To be believed: what the call `explain` promises: its answer, its place, its count, and every number of the list afterwards.
-use Rattle.std.specs.Prelude.{◌≡◌, List, ℕ, ◌<◌, length, take, drop}
+use Rattle.std.specs.Prelude.{◌≡◌, List, ℕ, ◌<◌, length, take, drop, Result, Ok, Err}
 use Rattle.rules.specs.Kinds.{Place}
 use Rattle.rules.specs.Meaning.{Shape}
 use Rattle.rules.specs.Fits.{Span, Legal}
 use Rattle.rules.specs.Tight.{rule, shape, span}
-use Rattle.checker.specs.declared.Checked.{Checked}
-use Rattle.checker.specs.declared.Checked.TheVariants.{Ok, Refused}
+use Rattle.checker.specs.declared.refusal.Refusal.{Refusal}
+use Rattle.checker.specs.declared.refusal.Refusal.TheVariants.{Ask}
 use Rattle.problem.specs.Lent.{widths_of, table_of, rule_count, rules_of}
-use Rattle.checker.specs.Refusal.{refusal, with_room}
+use Rattle.checker.specs.Refusal.{Checked, refusal, with_room}
 use Rattle.reason_theory.specs.Says.{Answer, CONFLICT, FORCED, FREE}
 use Rattle.reason_theory.specs.Reason.{Explains}
 use Rattle.explain.specs.declared.Explained.{Explained}
@@ -19,10 +19,6 @@ use Rattle.explain.specs.Dropping.{reason_put}
 -- the entries for which room is asked
 abbrev pub entries : ℕ
 entries = 193
-
--- the number of the refusal of a question
-abbrev pub ASK : ℕ
-ASK = 10
 
 -- refusal 1 for a list that is too short, then the refusals of the problem
 unfoldable pub explain_refusal : List ℕ → List ℕ → List ℕ → Checked
@@ -54,16 +50,16 @@ module _ (ws bs : List ℕ) (n p j : ℕ) where
     pub open_bit : OpenBit (shape (widths_of ws) (rule (rules_of bs) n)) (span (table_of ws) (rule (rules_of bs) n)) p j
 
   -- over a proper problem: refusal 10 where the question names no open bit, else what the rule says of the bit, over the table as given
-  pub data Judged (list : List ℕ) : Explained → List ℕ → Type 0 where
-    not_asked : ¬ AsksOpenBit → Judged list (explained.Refused ASK 0) list
+  pub data Judged (list : List ℕ) : Result Explained Refusal → List ℕ → Type 0 where
+    not_asked : ¬ AsksOpenBit → Judged list (Err Ask) list
     answered : {r : Explained} {list' : List ℕ} → AsksOpenBit
         → Explanation (shape (widths_of ws) (rule (rules_of bs) n)) (span (table_of ws) (rule (rules_of bs) n)) (place_of p) j list r list'
-        → Judged list r list'
+        → Judged list (Ok r) list'
 
   -- words ws, rules bs and a list were lent; r comes back, and list' stands in the list afterwards
-  pub data Explaining (list : List ℕ) : Explained → List ℕ → Type 0 where
-    refused : {number place : ℕ} → explain_refusal ws bs list ≡ Refused number place → Explaining list (explained.Refused number place) list
-    judged : {r : Explained} {list' : List ℕ} → explain_refusal ws bs list ≡ Ok → Judged list r list' → Explaining list r list'
+  pub data Explaining (list : List ℕ) : Result Explained Refusal → List ℕ → Type 0 where
+    refused : {r : Refusal} → explain_refusal ws bs list ≡ Err r → Explaining list (Err r) list
+    judged : {r : Result Explained Refusal} {list' : List ℕ} → explain_refusal ws bs list ≡ Ok tt → Judged list r list' → Explaining list r list'
 
 -- the first c numbers of the list are the reason, and the others are as they were
 pub record Listing (σ : Shape) (t : Span) (p : Place) (j : ℕ) (x : Answer) (c : ℕ) (list list' : List ℕ) : Type 0 where

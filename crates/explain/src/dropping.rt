@@ -1,67 +1,71 @@
 // The reason for an answer: each fixed bit of the rule's places is dropped where the answer stays, and else listed.
 ghost use Rattle.std.specs.Prelude.{◌≤◌, length};
+ghost use Rattle.problem.specs.Named.{place_named};
 ghost use Rattle.problem.specs.Places.{span_of};
 ghost use Rattle.reason_theory.specs.Reason.{fixed_at};
-ghost use Rattle.explain.specs.Places.{place_of};
 ghost use Rattle.explain.specs.Asking.{shape_in, Asks};
 ghost use Rattle.explain.specs.Dropping.{spot_at, BitAsked, PlaceAsked, Gone, Reasoned};
 ghost use Rattle.explain.specs.Promise.{entries};
 
 use crate::{Kept, Question, Said, places, saying};
+use problem::Bounds;
+use problem::kinds::Place;
 
-// Bit b of place p, if the bounds g have it fixed, is dropped where the answer stays, else listed.
-fn drop_bit(
-    list: &mut [u16],
+// What a walk through the fixed bits goes by: a question, its answer x, and the bounds g as they were given.
+#[derive(Clone, Copy)]
+struct Walk {
     q: Question,
     x: Said,
-    g: problem::Bounds,
-    s: Kept,
-    p: u64,
-    b: u64,
-) -> Kept
-    requires { BitAsked q g s p b list.old }
-    ensures { Gone q x (spot_at (span_of g) (place_of p) b) s list.old result list.new }
-{
-    if places::bit_of(places::low(g, p), b) != places::bit_of(places::high(g, p), b) {
-        return s;
-    }
-    let t = s.t;
-    let n = s.count;
-    let u = places::open_at(t, p, b);
-    if saying::stays(q, x, u) {
-        return Kept { t: u, count: n };
-    }
-    list[n] = (64 * p + b) as u16;
-    Kept { t, count: n + 1 }
+    g: Bounds,
 }
 
-// The fixed bits of place p gone through, from bit 0 upwards, where the rule uses it.
-fn drop_place(list: &mut [u16], q: Question, x: Said, g: problem::Bounds, s: Kept, p: u64) -> Kept
-    requires { PlaceAsked q g s p list.old }
-    ensures { Gone q x (fixed_at (shape_in q) (span_of g) (place_of p)) s list.old result list.new }
-{
-    if !problem::kinds::used(q.kind, p as usize + 1) {
-        return s;
+impl Walk {
+    // Bit b of place p, if it is fixed, is dropped where the answer stays, else listed.
+    fn drop_bit(self, list: &mut [u16], s: Kept, p: Place, b: u64) -> Kept
+        requires { BitAsked self.q self.g s (place_named p) b list.old }
+        ensures { Gone self.q self.x (spot_at (span_of self.g) (place_named p) b) s list.old result list.new }
+    {
+        let pair = self.g.at(p);
+        if places::bit_of(pair.lo, b) != places::bit_of(pair.hi, b) {
+            return s;
+        }
+        let Kept { t, count } = s;
+        let u = places::open_at(t, p, b);
+        if saying::stays(self.q, self.x, u) {
+            return Kept { t: u, count };
+        }
+        list[count] = (64 * u64::from(p) + b) as u16;
+        Kept {
+            t,
+            count: count + 1,
+        }
     }
-    let w = places::width(q.w, p);
-    let mut r = s;
-    let mut b = 0;
-    while b < w {
-        r = drop_bit(list, q, x, g, r, p, b);
-        b += 1;
+
+    // The fixed bits of place p gone through, from bit 0 upwards, where the rule uses it.
+    fn drop_place(self, list: &mut [u16], s: Kept, p: Place) -> Kept
+        requires { PlaceAsked self.q self.g s (place_named p) list.old }
+        ensures { Gone self.q self.x (fixed_at (shape_in self.q) (span_of self.g) (place_named p)) s list.old result list.new }
+    {
+        if !self.q.kind.uses(p) {
+            return s;
+        }
+        let mut r = s;
+        for b in 0..self.q.w.at(p) {
+            r = self.drop_bit(list, r, p, b);
+        }
+        r
     }
-    r
 }
 
 // All places gone through, from r to s. The number of entries listed comes back.
-pub fn reason(list: &mut [u16], q: Question, x: Said, t: problem::Bounds) -> u64
+pub fn reason(list: &mut [u16], q: Question, x: Said, t: Bounds) -> u64
     requires { Asks q t × (entries ≤ length list.old) }
     ensures { Reasoned q x t list.old result list.new }
 {
-    let begin = Kept { t, count: 0 };
-    let r = drop_place(list, q, x, t, begin, 0);
-    let a = drop_place(list, q, x, t, r, 1);
-    let b = drop_place(list, q, x, t, a, 2);
-    let s = drop_place(list, q, x, t, b, 3);
-    s.count as u64
+    let walk = Walk { q, x, g: t };
+    let mut r = Kept { t, count: 0 };
+    for p in Place::ALL {
+        r = walk.drop_place(list, r, p);
+    }
+    r.count as u64
 }

@@ -9,22 +9,25 @@ mod saying;
 
 ghost use Rattle.std.specs.Prelude.{◌≤◌, length};
 ghost use Rattle.problem.specs.Places.{span_of};
-ghost use Rattle.checker.specs.Promise.{Taken};
 ghost use Rattle.explain.specs.Asking.{shape_in, place_in, Asks};
 ghost use Rattle.explain.specs.Promise.{entries, Explanation, Judged, Explaining};
+
+use checker::{Proper, Refusal};
+use problem::kinds::{Kind, Place};
+use problem::{Bounds, Widths};
 
 // A question: the kind and number of a rule, the widths of its places, and the place and the bit that are asked for.
 #[derive(Clone, Copy)]
 struct Question {
-    kind: usize,
+    kind: Kind,
     k: u64,
-    w: problem::Widths,
-    place: u64,
+    w: Widths,
+    place: Place,
     bit: u64,
 }
 
 // What a rule says of a bit: it has no fit, all fits have this value, or neither.
-#[derive(Clone, Copy)]
+#[derive(Clone, Copy, Debug, PartialEq, Eq)]
 enum Said {
     Conflict,
     Forced(u64),
@@ -34,27 +37,23 @@ enum Said {
 // How far the dropping has come: the bounds with the dropped bits open, and how many entries are kept.
 #[derive(Clone, Copy)]
 struct Kept {
-    t: problem::Bounds,
+    t: Bounds,
     count: usize,
 }
 
-// The answer: CONFLICT with the number of entries of its reason, FORCED with the value and that number, FREE, or a refusal by its number and place.
-#[derive(Clone, Copy)]
+// The answer: CONFLICT with the number of entries of its reason, FORCED with the value and that number, or FREE.
+#[derive(Clone, Copy, Debug, PartialEq, Eq)]
 pub enum Explained {
     Conflict(u64),
     Forced(u64, u64),
     Free,
-    Refused(u64, u64),
 }
 
 // The most entries that a reason may have: room for so many must be lent.
 const ENTRIES: usize = 193;
 
-// The number of the refusal of a question.
-const ASK: u64 = 10;
-
 // The answer for an open bit, its reason listed. FREE has none, and leaves the list as it was.
-fn answered(list: &mut [u16], q: Question, t: problem::Bounds) -> Explained
+fn answered(list: &mut [u16], q: Question, t: Bounds) -> Explained
     requires { Asks q t × (entries ≤ length list.old) }
     ensures { Explanation (shape_in q) (span_of t) (place_in q) q.bit list.old result list.new }
 {
@@ -71,32 +70,37 @@ fn answered(list: &mut [u16], q: Question, t: problem::Bounds) -> Explained
 
 // The answer over a proper problem: refusal 10, or what rule n says of the bit.
 fn explain_proper(
-    words: &[u64],
-    rules: &[u8],
+    problem: &Proper<'_>,
     rule: u64,
     place: u64,
     bit: u64,
     list: &mut [u16],
-) -> Explained
-    requires { Taken entries (length list.old) words.now rules.now }
-    ensures { Judged words.now rules.now rule place bit list.old result list.new }
+) -> Result<Explained, Refusal>
+    requires { entries ≤ length list.old }
+    ensures { Judged problem.now.words.now problem.now.rules.now rule place bit list.old result list.new }
 {
-    if (rules.len() / problem::FIELDS) as u64 <= rule {
-        return Explained::Refused(ASK, 0);
+    if problem.rule_count() as u64 <= rule {
+        return Err(Refusal::Ask);
     }
-    let x = problem::fields_of(rules, rule as usize);
-    let t = problem::bounds_of(words, x);
+    let Ok(place) = Place::try_from(place) else {
+        return Err(Refusal::Ask);
+    };
+    let x = problem::fields_of(problem.rules, rule as usize);
+    let Ok(kind) = Kind::try_from(x.kind) else {
+        unreachable!()
+    };
+    let t = problem::bounds_of(problem.words, x);
     let q = Question {
-        kind: x.kind,
-        k: x.k,
-        w: problem::widths_of(words, x),
+        kind,
+        k: u64::from(x.k),
+        w: problem::widths_of(problem.words, x),
         place,
         bit,
     };
     if !asking::is_open(q, t) {
-        return Explained::Refused(ASK, 0);
+        return Err(Refusal::Ask);
     }
-    answered(list, q, t)
+    Ok(answered(list, q, t))
 }
 
 // Explains one open bit at one place (0 r, 1 a, 2 b, 3 s) of a rule, over the table as given. CONFLICT and FORCED: the reason stands in the list, each
@@ -109,15 +113,12 @@ pub fn explain(
     place: u64,
     bit: u64,
     list: &mut [u16],
-) -> Explained
+) -> Result<Explained, Refusal>
     ensures { Explaining words.now rules.now rule place bit list.old result list.new }
 {
     if list.len() < ENTRIES {
-        return Explained::Refused(checker::SIZE, 0);
+        return Err(Refusal::Size);
     }
-    let x = checker::first_refusal(words, rules);
-    if let checker::Checked::Refused(number, at) = x {
-        return Explained::Refused(number, at);
-    }
-    explain_proper(words, rules, rule, place, bit, list)
+    let problem = Proper::new(words, rules)?;
+    explain_proper(&problem, rule, place, bit, list)
 }

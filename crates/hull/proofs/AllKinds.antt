@@ -1,17 +1,16 @@
 -- What is computed for each kind is the hull: the theorem of the fourteen kinds. And what each function asks of a rule follows from a legal one.
-use Rattle.std.proofs.Common.{◌≡◌, ℕ, zero, suc, ◌<◌, T, ◌≢◌, refl, arith}
+use Rattle.std.proofs.Common.{◌≡◌, ◌≢◌, ℕ, Option, T, refl, arith}
 use Rattle.words.specs.Word.{Width}
-use Rattle.rules.specs.Kinds.{R, A, B, COPY, NOT, AND, OR, XOR, ADD, ITE, SLICE, JOIN, SHL, SHR, ULE, ULT, NE, Kind, op, rel, kind_of}
-use Rattle.problem.specs.Places.{width_of, shaped, shape_of, span_of}
+use Rattle.rules.specs.Kinds.{R, A, B, COPY, NOT, AND, OR, XOR, ADD, ITE, SLICE, JOIN, SHL, SHR, ULE, ULT, NE, Kind, op, rel}
+use Rattle.problem.specs.Places.{Widths, Bounds, width_of, shaped, shape_of, span_of}
 use Rattle.rules.specs.Rows.{uses}
 use Rattle.rules.specs.Fits.{Legal}
-use Rattle.rules.specs.ProperProblem.{KindNumber}
-use Rattle.problem.specs.declared.Widths.{Widths}
-use Rattle.problem.specs.declared.Bounds.{Bounds}
-use Rattle.hull.specs.declared.Narrowed.{Narrowed}
+use Rattle.problem.specs.declared.kinds.Kind as kinds
+use Rattle.problem.specs.declared.kinds.Kind.TheVariants as kind
+use Rattle.problem.specs.Named.{kind_named}
+use Rattle.problem.proofs.Readings.{uses_a}
 use Rattle.hull.specs.ByColumns.{columns_of}
 use Rattle.hull.specs.Narrowing.{narrowed_as, Narrows}
-use Rattle.hull.proofs.Table.{below}
 use Rattle.hull.proofs.Slices.{copy_narrows, slice_kind_narrows, shr_narrows}
 use Rattle.hull.proofs.Inverts.{not_narrows}
 use Rattle.hull.proofs.Shifts.{shl_narrows}
@@ -37,47 +36,36 @@ narrowed_hull (rel ULE) k w t l = ule_narrows k (width_of w) t l
 narrowed_hull (rel ULT) k w t l = ult_narrows k (width_of w) t l
 narrowed_hull (rel NE) k w t l = ne_narrows k (width_of w) t l
 
-module _ (κ k : ℕ) (w : Widths) (t : Bounds) (legal : Legal (shape_of κ k w) (span_of t)) where
+module _ (κ : kinds.Kind) (k : ℕ) (w : Widths) (t : Bounds) (legal : Legal (shape_of κ k w) (span_of t)) where
   -- what the code returns is what is computed for the kind
-  pub told : (r : Narrowed) → r ≡ narrowed_as (kind_of κ) k w t → Narrows (shape_of κ k w) (span_of t) r
-  told r e = rw e (narrowed_hull (kind_of κ) k w t legal)
+  pub told : (r : Option Bounds) → r ≡ narrowed_as (kind_named κ) k w t → Narrows (shape_of κ k w) (span_of t) r
+  told r e = rw e (narrowed_hull (kind_named κ) k w t legal)
 
-  pub told_kind : (n : ℕ) (r : Narrowed) → κ ≡ n → r ≡ narrowed_as (kind_of n) k w t → Narrows (shape_of κ k w) (span_of t) r
-  told_kind n r d e = told r (rw d e)
-
-  -- the kinds up to 11 use r, and all use a
-  pub r_width : κ < 12 → Width w.r
-  unfolding kind_of
-  r_width l = legal.width R (below (λ n. uses (kind_of n) R) 12 tt κ l)
+  -- the kinds of computing rules use r, and all kinds use a
+  pub r_width : T (uses (kind_named κ) R) → Width w.r
+  r_width u = legal.width R u
 
   pub a_width : Width w.a
-  a_width = legal.width A (uses_a (kind_of κ))
-    where
-      uses_a : (x : Kind) → T (uses x A)
-      uses_a (op o) = tt
-      uses_a (rel x) = tt
+  a_width = legal.width A (uses_a (kind_named κ))
 
-  pub b_width : κ ≡ 9 → Width w.b
-  unfolding kind_of
-  b_width e = let g : Legal (shape_of 9 k w) (span_of t) = rw e at legal in g.width B tt
+  pub b_width : T (uses (kind_named κ) B) → Width w.b
+  b_width u = legal.width B u
 
 -- the kinds that move no bits go by columns
-pub columns_told : (κ k : ℕ) (w : Widths) (t : Bounds) → KindNumber κ → κ ≢ 1 → κ ≢ 2 → κ ≢ 8 → κ ≢ 9 → κ ≢ 10 → κ ≢ 11
-    → columns_of κ w.a t ≡ narrowed_as (kind_of κ) k w t
-unfolding kind_of
-columns_told zero k w t h a b d e f g = absurd (omega (arith, h.low))
-columns_told (suc zero) k w t h a b d e f g = absurd (a refl)
-columns_told (suc (suc zero)) k w t h a b d e f g = absurd (b refl)
-columns_told (suc (suc (suc zero))) k w t h a b d e f g = refl
-columns_told (suc (suc (suc (suc zero)))) k w t h a b d e f g = refl
-columns_told (suc (suc (suc (suc (suc zero))))) k w t h a b d e f g = refl
-columns_told (suc (suc (suc (suc (suc (suc zero)))))) k w t h a b d e f g = refl
-columns_told (suc (suc (suc (suc (suc (suc (suc zero))))))) k w t h a b d e f g = refl
-columns_told (suc (suc (suc (suc (suc (suc (suc (suc zero)))))))) k w t h a b d e f g = absurd (d refl)
-columns_told (suc (suc (suc (suc (suc (suc (suc (suc (suc zero))))))))) k w t h a b d e f g = absurd (e refl)
-columns_told (suc (suc (suc (suc (suc (suc (suc (suc (suc (suc zero)))))))))) k w t h a b d e f g = absurd (f refl)
-columns_told (suc (suc (suc (suc (suc (suc (suc (suc (suc (suc (suc zero))))))))))) k w t h a b d e f g = absurd (g refl)
-columns_told (suc (suc (suc (suc (suc (suc (suc (suc (suc (suc (suc (suc zero)))))))))))) k w t h a b d e f g = refl
-columns_told (suc (suc (suc (suc (suc (suc (suc (suc (suc (suc (suc (suc (suc zero))))))))))))) k w t h a b d e f g = refl
-columns_told (suc (suc (suc (suc (suc (suc (suc (suc (suc (suc (suc (suc (suc (suc zero)))))))))))))) k w t h a b d e f g = refl
-columns_told (suc (suc (suc (suc (suc (suc (suc (suc (suc (suc (suc (suc (suc (suc (suc n))))))))))))))) k w t h a b d e f g = absurd (omega (arith, h.high))
+pub columns_told : (κ : kinds.Kind) (k : ℕ) (w : Widths) (t : Bounds)
+    → κ ≢ kind.Copy → κ ≢ kind.Not → κ ≢ kind.Slice → κ ≢ kind.Join → κ ≢ kind.Shl → κ ≢ kind.Shr
+    → columns_of (kind_named κ) w.a t ≡ narrowed_as (kind_named κ) k w t
+columns_told kind.Copy k w t a b d e f g = absurd (a refl)
+columns_told kind.Not k w t a b d e f g = absurd (b refl)
+columns_told kind.And k w t a b d e f g = refl
+columns_told kind.Or k w t a b d e f g = refl
+columns_told kind.Xor k w t a b d e f g = refl
+columns_told kind.Add k w t a b d e f g = refl
+columns_told kind.Ite k w t a b d e f g = refl
+columns_told kind.Slice k w t a b d e f g = absurd (d refl)
+columns_told kind.Join k w t a b d e f g = absurd (e refl)
+columns_told kind.Shl k w t a b d e f g = absurd (f refl)
+columns_told kind.Shr k w t a b d e f g = absurd (g refl)
+columns_told kind.Ule k w t a b d e f g = refl
+columns_told kind.Ult k w t a b d e f g = refl
+columns_told kind.Ne k w t a b d e f g = refl

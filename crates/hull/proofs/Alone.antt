@@ -6,20 +6,19 @@ use Rattle.words.proofs.Order.{⊑_refl}
 use Rattle.rules.specs.Kinds.{Place, B, S, Op, op}
 use Rattle.rules.specs.Rows.{row, operand}
 use Rattle.rules.specs.Meaning.{result}
-use Rattle.problem.specs.declared.Bounds.{Bounds}
 use Rattle.hull.specs.Moves.{met}
-use Rattle.problem.specs.Places.{shaped, span_of}
+use Rattle.problem.specs.Places.{Bounds, shaped, span_of}
 use Rattle.hull.specs.Narrowing.{Narrows}
 use Rattle.hull.proofs.Moving.{Moved, moved_narrows}
 
 module _ (o : Op) (k : ℕ) (w : Place → ℕ) (t : Bounds) (no_b : ¬ T (operand (row o) B)) (no_s : ¬ T (operand (row o) S)) (get : ℕ → ℕ) (into : ℕ → ℕ → ℕ) where
   pub record Alone : Type 0 where
-    pub proper : t.al ⊑ t.ah
-    pub says : {a : ℕ} (b s : ℕ) → a ⊑ t.ah → result o w k a b s ≡ get a
-    pub get_mono : {a a' : ℕ} → a ⊑ a' → a' ⊑ t.ah → get a ⊑ get a'
-    pub into_mono : {a a' r r' : ℕ} → a ⊑ a' → a' ⊑ t.ah → r ⊑ r' → r' ⊑ get t.ah → into a r ⊑ into a' r'
-    pub back : {a : ℕ} → a ⊑ t.ah → into a (get a) ≡ a
-    pub reached : {a r : ℕ} → a ⊑ t.ah → r ⊑ get t.ah → get (into a r) ≡ r
+    pub proper : t.a.lo ⊑ t.a.hi
+    pub says : {a : ℕ} (b s : ℕ) → a ⊑ t.a.hi → result o w k a b s ≡ get a
+    pub get_mono : {a a' : ℕ} → a ⊑ a' → a' ⊑ t.a.hi → get a ⊑ get a'
+    pub into_mono : {a a' r r' : ℕ} → a ⊑ a' → a' ⊑ t.a.hi → r ⊑ r' → r' ⊑ get t.a.hi → into a r ⊑ into a' r'
+    pub back : {a : ℕ} → a ⊑ t.a.hi → into a (get a) ≡ a
+    pub reached : {a r : ℕ} → a ⊑ t.a.hi → r ⊑ get t.a.hi → get (into a r) ≡ r
 
   moved : Alone → Moved o k w t no_s (λ a b. get a) into (λ b r. b)
   moved x = record {
@@ -35,5 +34,5 @@ module _ (o : Op) (k : ℕ) (w : Place → ℕ) (t : Bounds) (no_b : ¬ T (opera
   }
 
   pub alone_narrows : Alone
-      → Narrows (shaped (op o) k w) (span_of t) (met into t (bit_or t.rl (get t.al)) (bit_and t.rh (get t.ah)))
+      → Narrows (shaped (op o) k w) (span_of t) (met into t (bit_or t.r.lo (get t.a.lo)) (bit_and t.r.hi (get t.a.hi)))
   alone_narrows x = moved_narrows o k w t no_s (λ a b. get a) into (λ b r. b) (moved x)

@@ -1,19 +1,17 @@
 -- The eight kinds that go by columns, each from what a run of its automaton means: swept, or computed at once where the operands are fixed.
-use Rattle.std.proofs.Common.{◌≡◌, ℕ, zero, suc, ◌+◌, ◌-◌, ◌%◌, ◌^◌, ◌≤◌, Bool, true, false, T, eqb, ◌≢◌, ◌↔◌, sym, refl, ◌∙◌, arith}
+use Rattle.std.proofs.Common.{◌≡◌, ℕ, zero, suc, ◌+◌, ◌-◌, ◌%◌, ◌^◌, ◌≤◌, Bool, true, false, Option, T, eqb, ◌≢◌, ◌↔◌, sym, refl, ◌∙◌, arith}
 use lib.Dec.{eqb-suc-zero}
 use lib.Bits.{bit_and, and_mask}
 use lib.Pow.{mod-mod-pow}
-use Rattle.rules.specs.Kinds.{Place, R, A, B, S, Op, AND, OR, XOR, ADD, ITE, Rel, ULE, ULT, NE, Kind, op, rel, kind_of}
+use Rattle.rules.specs.Kinds.{Place, R, A, B, S, Op, AND, OR, XOR, ADD, ITE, Rel, ULE, ULT, NE, Kind, op, rel}
 use Rattle.rules.specs.Rows.{row, operand}
 use Rattle.rules.specs.Meaning.{Shape, result, choose, Holds}
 use Rattle.rules.specs.Fits.{Span, Uses, Legal}
-use Rattle.problem.specs.declared.Bounds.{Bounds}
-use Rattle.hull.specs.declared.Narrowed.{Narrowed}
 use Rattle.hull.specs.declared.Auto.{Auto}
 use Rattle.hull.specs.Runs.{Lane, lane_r, lane_a, lane_b, pick, Runs}
 use Rattle.hull.specs.Automata.{auto_of}
 use Rattle.hull.specs.ByColumns.{framed_by, framed_of, left_of, swept_of, fixed_in, value_of, settled, columns_of}
-use Rattle.problem.specs.Places.{shaped, span_of, lo_of, hi_of}
+use Rattle.problem.specs.Places.{Bounds, shaped, span_of, lo_of, hi_of}
 use Rattle.hull.specs.Narrowing.{Narrows}
 use Rattle.hull.proofs.Meaning.{Under}
 use Rattle.hull.proofs.Results.{ands, ors, xors, sums, choices}
@@ -24,9 +22,9 @@ use Rattle.hull.proofs.OnlyUsed.{picked}
 use Rattle.hull.proofs.Sweeps.{swept_by, swept_narrows}
 use Rattle.hull.proofs.Settles.{fixed_in_lem, settled_narrows}
 
--- what is computed by columns for kind number n is the hull
-abbrev pub Right : ℕ → (Place → ℕ) → Bounds → Kind → ℕ → Type 0
-Right k w t κ n = Legal (shaped κ k w) (span_of t) → Narrows (shaped κ k w) (span_of t) (columns_of n (w A) t)
+-- what is computed by columns for a kind is the hull
+abbrev pub Right : ℕ → (Place → ℕ) → Bounds → Kind → Type 0
+Right k w t κ = Legal (shaped κ k w) (span_of t) → Narrows (shaped κ k w) (span_of t) (columns_of κ (w A) t)
 
 -- ---- ULE, ULT and NE
 
@@ -46,23 +44,23 @@ module _ (k : ℕ) (w : Place → ℕ) (t : Bounds) where
       level lane_a used = refl
       level lane_b used = sym e
 
-  pub ule_narrows : Right k w t (rel ULE) 12
-  unfolding columns_of swept_of framed_of left_of kind_of
-  ule_narrows legal = swept_narrows (shaped (rel ULE) k w) t (auto_of 12) true (compared ULE (auto_of 12) true legal.fitting (ules (w A))) legal
+  pub ule_narrows : Right k w t (rel ULE)
+  unfolding columns_of swept_of framed_of left_of
+  ule_narrows legal = swept_narrows (shaped (rel ULE) k w) t (auto_of (rel ULE)) true (compared ULE (auto_of (rel ULE)) true legal.fitting (ules (w A))) legal
 
-  pub ult_narrows : Right k w t (rel ULT) 13
-  unfolding columns_of swept_of framed_of left_of kind_of
-  ult_narrows legal = swept_narrows (shaped (rel ULT) k w) t (auto_of 13) false (compared ULT (auto_of 13) false legal.fitting (ults (w A))) legal
+  pub ult_narrows : Right k w t (rel ULT)
+  unfolding columns_of swept_of framed_of left_of
+  ult_narrows legal = swept_narrows (shaped (rel ULT) k w) t (auto_of (rel ULT)) false (compared ULT (auto_of (rel ULT)) false legal.fitting (ults (w A))) legal
 
-  pub ne_narrows : Right k w t (rel NE) 14
-  unfolding columns_of swept_of framed_of left_of kind_of
-  ne_narrows legal = swept_narrows (shaped (rel NE) k w) t (auto_of 14) false (compared NE (auto_of 14) false legal.fitting (nes (w A))) legal
+  pub ne_narrows : Right k w t (rel NE)
+  unfolding columns_of swept_of framed_of left_of
+  ne_narrows legal = swept_narrows (shaped (rel NE) k w) t (auto_of (rel NE)) false (compared NE (auto_of (rel NE)) false legal.fitting (nes (w A))) legal
 
 -- ---- AND, OR, XOR, ADD and ITE
 
-either : {σ : Shape} {t : Span} (b : Bool) (x y : Narrowed) → Narrows σ t x → (T b → Narrows σ t y) → Narrows σ t (pick b x y)
-either true x y p q = q tt
-either false x y p q = p
+either : (σ : Shape) (t : Span) (b : Bool) (x y : Option Bounds) → Narrows σ t x → (T b → Narrows σ t y) → Narrows σ t (pick b x y)
+either σ t true x y p q = q tt
+either σ t false x y p q = p
 
 module _ (k : ℕ) (w : Place → ℕ) (t : Bounds) where
   computed : (o : Op) (u : Auto) → T (operand (row o) B) → (w R ≡ w A) × (w R ≡ w B) → (T (operand (row o) S) → w S ≡ 1)
@@ -82,28 +80,30 @@ module _ (k : ℕ) (w : Place → ℕ) (t : Bounds) where
   all_fixed o h B used d = (fixed_in_lem (framed_by true (operand (row o) S) false t) h).1
   all_fixed o h S used d =
       let c = operand (row o) S in
-      rw (picked c 0 t.sl used, picked c 0 t.sh used) at (fixed_in_lem (framed_by true c false t) h).2
+      rw (picked c 0 t.s.lo used, picked c 0 t.s.hi used) at (fixed_in_lem (framed_by true c false t) h).2
 
   -- a kind whose value v is computed at once where the operands are fixed
   op_narrows : (o : Op) (u : Auto) (v : ℕ) → ByColumns (shaped (op o) k w) t u false → Legal (shaped (op o) k w) (span_of t)
-      → v ≡ result o w k t.al t.bl t.sl
+      → v ≡ result o w k t.a.lo t.b.lo t.s.lo
       → Narrows (shaped (op o) k w) (span_of t)
       (pick (fixed_in (framed_by true (operand (row o) S) false t)) (swept_by (shaped (op o) k w) t u false) (settled v t))
   op_narrows o u v x legal says =
-      either (fixed_in (framed_by true (operand (row o) S) false t)) _ _ (swept_narrows (shaped (op o) k w) t u false x legal)
+      either (shaped (op o) k w) (span_of t) (fixed_in (framed_by true (operand (row o) S) false t)) _ _ (swept_narrows (shaped (op o) k w) t u false x legal)
       (λ h. settled_narrows o k w t v (all_fixed o h) says)
 
-  pub and_narrows : Right k w t (op AND) 3
-  unfolding columns_of swept_of framed_of left_of kind_of value_of
-  and_narrows legal = op_narrows AND (auto_of 3) _ (computed AND (auto_of 3) tt legal.fitting (λ used. absurd used) (λ q is. ands (w A) q)) legal refl
+  pub and_narrows : Right k w t (op AND)
+  unfolding columns_of swept_of framed_of left_of value_of
+  and_narrows legal =
+      op_narrows AND (auto_of (op AND)) _ (computed AND (auto_of (op AND)) tt legal.fitting (λ used. absurd used) (λ q is. ands (w A) q)) legal refl
 
-  pub or_narrows : Right k w t (op OR) 4
-  unfolding columns_of swept_of framed_of left_of kind_of value_of
-  or_narrows legal = op_narrows OR (auto_of 4) _ (computed OR (auto_of 4) tt legal.fitting (λ used. absurd used) (λ q is. ors (w A) q)) legal refl
+  pub or_narrows : Right k w t (op OR)
+  unfolding columns_of swept_of framed_of left_of value_of
+  or_narrows legal = op_narrows OR (auto_of (op OR)) _ (computed OR (auto_of (op OR)) tt legal.fitting (λ used. absurd used) (λ q is. ors (w A) q)) legal refl
 
-  pub xor_narrows : Right k w t (op XOR) 5
-  unfolding columns_of swept_of framed_of left_of kind_of value_of
-  xor_narrows legal = op_narrows XOR (auto_of 5) _ (computed XOR (auto_of 5) tt legal.fitting (λ used. absurd used) (λ q is. xors (w A) q)) legal refl
+  pub xor_narrows : Right k w t (op XOR)
+  unfolding columns_of swept_of framed_of left_of value_of
+  xor_narrows legal =
+      op_narrows XOR (auto_of (op XOR)) _ (computed XOR (auto_of (op XOR)) tt legal.fitting (λ used. absurd used) (λ q is. xors (w A) q)) legal refl
 
   -- a sum of 64 bits, taken to n of them
   sum_low : (n a b : ℕ) → n ≤ 64 → bit_and ((a + b) % 2 ^ 64) (2 ^ n - 1) ≡ (a + b) % 2 ^ n
@@ -111,14 +111,14 @@ module _ (k : ℕ) (w : Place → ℕ) (t : Bounds) where
       let e : 64 - n + n ≡ 64 = omega arith in
       and_mask ((a + b) % 2 ^ 64) n ∙ rw e at (mod-mod-pow (a + b) (64 - n) n)
 
-  pub add_narrows : Right k w t (op ADD) 6
-  unfolding columns_of swept_of framed_of left_of kind_of value_of
+  pub add_narrows : Right k w t (op ADD)
+  unfolding columns_of swept_of framed_of left_of value_of
   add_narrows legal =
-      op_narrows ADD (auto_of 6) _ (computed ADD (auto_of 6) tt legal.fitting (λ used. absurd used) means) legal
-      (rw legal.fitting.0 (sum_low (w A) t.al t.bl (legal.width A tt).high))
+      op_narrows ADD (auto_of (op ADD)) _ (computed ADD (auto_of (op ADD)) tt legal.fitting (λ used. absurd used) means) legal
+      (rw legal.fitting.0 (sum_low (w A) t.a.lo t.b.lo (legal.width A tt).high))
     where
       means : (q : Bool) → (¬ T (operand (row ADD) S) → q ≡ false) → (v : Lane → ℕ) → Under (w A) v
-          → Runs (auto_of 6) (w A) q v ↔ Holds (op ADD) w k (values q v)
+          → Runs (auto_of (op ADD)) (w A) q v ↔ Holds (op ADD) w k (values q v)
       means q is v h =
           let z : v lane_a + v lane_b + 0 ≡ v lane_a + v lane_b = omega arith in
           rw (is (λ used. used), legal.fitting.0, ← z) (sums (w A) false v h)
@@ -127,13 +127,13 @@ module _ (k : ℕ) (w : Place → ℕ) (t : Bounds) where
   choose_pick zero a b = refl
   choose_pick (suc s) a b = rw (eqb-suc-zero s)
 
-  pub ite_narrows : Right k w t (op ITE) 7
-  unfolding columns_of swept_of framed_of left_of kind_of value_of
+  pub ite_narrows : Right k w t (op ITE)
+  unfolding columns_of swept_of framed_of left_of value_of
   ite_narrows legal =
-      op_narrows ITE (auto_of 7) _ (computed ITE (auto_of 7) tt (legal.fitting.0, legal.fitting.1) (λ used. legal.fitting.2) means) legal
-      (choose_pick t.sl t.al t.bl)
+      op_narrows ITE (auto_of (op ITE)) _ (computed ITE (auto_of (op ITE)) tt (legal.fitting.0, legal.fitting.1) (λ used. legal.fitting.2) means) legal
+      (choose_pick t.s.lo t.a.lo t.b.lo)
     where
       means : (q : Bool) → (¬ T (operand (row ITE) S) → q ≡ false) → (v : Lane → ℕ) → Under (w A) v
-          → Runs (auto_of 7) (w A) q v ↔ Holds (op ITE) w k (values q v)
+          → Runs (auto_of (op ITE)) (w A) q v ↔ Holds (op ITE) w k (values q v)
       means true is v h = choices (w A) true v h
       means false is v h = choices (w A) false v h

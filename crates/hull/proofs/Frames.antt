@@ -8,13 +8,12 @@ use Rattle.rules.specs.Rows.{uses}
 use Rattle.rules.specs.Meaning.{Shape, Holds}
 use Rattle.rules.specs.Fits.{Uses, Legal, Fit}
 use Rattle.rules.proofs.Used.{only_used}
-use Rattle.problem.specs.declared.Bounds.{Bounds}
 use Rattle.hull.specs.declared.Auto.{Auto}
 use Rattle.hull.specs.declared.Swept.{Swept}
 use Rattle.hull.specs.Columns.{even, odd, keep_if, sweep_of}
 use Rattle.hull.specs.Runs.{Lane, lane_r, lane_a, lane_b, lo, hi, pick, Runs, RunIn}
 use Rattle.hull.specs.ByColumns.{lanes_of, framed_by}
-use Rattle.problem.specs.Places.{span_of, lo_of, hi_of}
+use Rattle.problem.specs.Places.{Bounds, span_of, lo_of, hi_of}
 use Rattle.hull.proofs.Size.{Below, small_of}
 use Rattle.lists.proofs.Bools.{beq_eq}
 use Rattle.hull.proofs.LowBit.{as_bit, one_inj, may_be→, may_be←}
@@ -47,7 +46,7 @@ module _ (σ : Shape) (t : Bounds) (u : Auto) (begin : Bool) where
   frame = framed_by c d begin t
 
   abbrev pub swept : Swept
-  swept = sweep_of u n (even frame.sl) (odd frame.sh) (lanes_of frame)
+  swept = sweep_of u n (even frame.s.lo) (odd frame.s.hi) (lanes_of frame)
 
   module _ (x : ByColumns) (legal : Legal σ (span_of t)) where
     bounds_at : (p : Lane) → Uses σ (place p) → Bounded n (lo_of t (place p)) (hi_of t (place p))
@@ -58,17 +57,17 @@ module _ (σ : Shape) (t : Bounds) (u : Auto) (begin : Bool) where
     small lane_a = small_of (bounds_at lane_a x.use_a)
     small lane_b = small_of (bounds_at lane_b x.use_b)
 
-    one_bit : Bounded 1 frame.sl frame.sh
+    one_bit : Bounded 1 frame.s.lo frame.s.hi
     one_bit = pick_bounded d begin (λ used. rw (x.one_bit used) at (legal.bounded S used))
 
     -- s may be q, by the bounds of the frame
     abbrev may_be : Bool → Bool
-    may_be q = pick q (even frame.sl) (odd frame.sh)
+    may_be q = pick q (even frame.s.lo) (odd frame.s.hi)
 
     begun : (q : Bool) → T (may_be q) → ¬ Uses σ S → q ≡ begin
     begun q m no_use =
         let (l, h) = may_be→ one_bit q m in
-        let e : one q ≡ one begin = ⊑_antisym (rw (unpicked d (one begin) t.sh no_use) at h) (rw (unpicked d (one begin) t.sl no_use) at l) in
+        let e : one q ≡ one begin = ⊑_antisym (rw (unpicked d (one begin) t.s.hi no_use) at h) (rw (unpicked d (one begin) t.s.lo no_use) at l) in
         beq_eq q begin (one_inj q begin e)
 
     abbrev lane_of : (Place → ℕ) → Lane → ℕ
@@ -76,10 +75,10 @@ module _ (σ : Shape) (t : Bounds) (u : Auto) (begin : Bool) where
     lane_of f lane_a = f A
     lane_of f lane_b = f B
 
-    spelt : (f : Place → ℕ) → Fit σ (span_of t) f → Spelt σ u n (even frame.sl) (odd frame.sh) (lanes_of frame) f
+    spelt : (f : Place → ℕ) → Fit σ (span_of t) f → Spelt σ u n (even frame.s.lo) (odd frame.s.hi) (lanes_of frame) f
     spelt f fit = go (as_bit (pick d (one begin) (f S)) (omega (arith, ⊑_le _ _ s_to, one_bit.below)))
       where
-        s_to : pick d (one begin) (f S) ⊑ frame.sh
+        s_to : pick d (one begin) (f S) ⊑ frame.s.hi
         s_to = pick_in d (one begin) (fit.to S)
 
         from : (p : Lane) → lo p (lanes_of frame) ⊑ lane_of f p
@@ -97,7 +96,7 @@ module _ (σ : Shape) (t : Bounds) (u : Auto) (begin : Bool) where
         same lane_a used = refl
         same lane_b used = refl
 
-        go : (q : Bool) × (pick d (one begin) (f S) ≡ one q) → Spelt σ u n (even frame.sl) (odd frame.sh) (lanes_of frame) f
+        go : (q : Bool) × (pick d (one begin) (f S) ≡ one q) → Spelt σ u n (even frame.s.lo) (odd frame.s.hi) (lanes_of frame) f
         go (q, e) = record {
           state = q;
           begins = m;
@@ -129,16 +128,16 @@ module _ (σ : Shape) (t : Bounds) (u : Auto) (begin : Bool) where
     fit_of q v m r = record { from = from; to = to; holds = (x.means q (begun q m) v (λ p. omega (arith, ⊑_le _ _ (r.to p), (small p).1))).0 r.runs }
       where
         from : (p : Place) → Uses σ p → lo_of t p ⊑ values q v p
-        from R used = rw (kept c t.rl used) at (r.from lane_r)
+        from R used = rw (kept c t.r.lo used) at (r.from lane_r)
         from A used = r.from lane_a
         from B used = r.from lane_b
-        from S used = rw (picked d (one begin) t.sl used) at (may_be→ one_bit q m).0
+        from S used = rw (picked d (one begin) t.s.lo used) at (may_be→ one_bit q m).0
 
         to : (p : Place) → Uses σ p → values q v p ⊑ hi_of t p
-        to R used = rw (kept c t.rh used) at (r.to lane_r)
+        to R used = rw (kept c t.r.hi used) at (r.to lane_r)
         to A used = r.to lane_a
         to B used = r.to lane_b
-        to S used = rw (picked d (one begin) t.sh used) at (may_be→ one_bit q m).1
+        to S used = rw (picked d (one begin) t.s.hi used) at (may_be→ one_bit q m).1
 
-    pub tied : Tied σ (span_of t) u n (even frame.sl) (odd frame.sh) (lanes_of frame)
+    pub tied : Tied σ (span_of t) u n (even frame.s.lo) (odd frame.s.hi) (lanes_of frame)
     tied = record { small = small; into = spelt; back = fit_of }

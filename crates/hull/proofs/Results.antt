@@ -5,9 +5,10 @@ use native.Mathlib.Nat.{mod-one}
 use lib.Bits.{bit_and, bit_or, bit_xor, differ, and_step, or_step, xor_step}
 use lib.Arith.{mod-mul}
 use Rattle.words.specs.Bits.{one}
+use Rattle.rules.specs.Kinds.{AND, OR, XOR, ADD, ITE, op}
 use Rattle.hull.specs.Columns.{odd}
 use Rattle.hull.specs.Runs.{Lane, lane_r, lane_a, lane_b, ends, pick, Runs}
-use Rattle.hull.specs.Automata.{auto_of, accepts}
+use Rattle.hull.specs.Automata.{auto_of}
 use Rattle.lists.proofs.Bools.{at1, at3}
 use Rattle.hull.proofs.LowBit.{split, low_one, one_lt}
 use Rattle.hull.proofs.Table.{machine, xor, carry}
@@ -48,34 +49,34 @@ pick_step false a b = split b
 
 -- ---- the five kinds
 
-pub ands : (n : ℕ) (q : Bool) (v : Lane → ℕ) → Under n v → Runs (auto_of 3) n q v ↔ (v lane_r ≡ bit_and (v lane_a) (v lane_b))
-unfolding auto_of accepts machine
+pub ands : (n : ℕ) (q : Bool) (v : Lane → ℕ) → Under n v → Runs (auto_of (op AND)) n q v ↔ (v lane_r ≡ bit_and (v lane_a) (v lane_b))
+unfolding auto_of machine
 ands =
-    computes 3 (lit< tt) (λ n q a b. bit_and a b) (λ q y z. y && z) (λ q x y z. refl) (at1 (λ q. ends (auto_of 3) q) tt) (λ q. refl)
+    computes (op AND) (λ n q a b. bit_and a b) (λ q y z. y && z) (λ q x y z. refl) (at1 (λ q. ends (auto_of (op AND)) q) tt) (λ q. refl)
     (λ n q a b. omega (arith, and_step a b, low_one a, low_one b, one_and (odd a) (odd b)))
 
-pub ors : (n : ℕ) (q : Bool) (v : Lane → ℕ) → Under n v → Runs (auto_of 4) n q v ↔ (v lane_r ≡ bit_or (v lane_a) (v lane_b))
-unfolding auto_of accepts machine
+pub ors : (n : ℕ) (q : Bool) (v : Lane → ℕ) → Under n v → Runs (auto_of (op OR)) n q v ↔ (v lane_r ≡ bit_or (v lane_a) (v lane_b))
+unfolding auto_of machine
 ors =
-    computes 4 (lit< tt) (λ n q a b. bit_or a b) (λ q y z. y || z) (λ q x y z. refl) (at1 (λ q. ends (auto_of 4) q) tt) (λ q. refl)
+    computes (op OR) (λ n q a b. bit_or a b) (λ q y z. y || z) (λ q x y z. refl) (at1 (λ q. ends (auto_of (op OR)) q) tt) (λ q. refl)
     (λ n q a b. omega (arith, or_step a b, low_one a, low_one b, one_or (odd a) (odd b)))
 
-pub xors : (n : ℕ) (q : Bool) (v : Lane → ℕ) → Under n v → Runs (auto_of 5) n q v ↔ (v lane_r ≡ bit_xor (v lane_a) (v lane_b))
-unfolding auto_of accepts machine
+pub xors : (n : ℕ) (q : Bool) (v : Lane → ℕ) → Under n v → Runs (auto_of (op XOR)) n q v ↔ (v lane_r ≡ bit_xor (v lane_a) (v lane_b))
+unfolding auto_of machine
 xors =
-    computes 5 (lit< tt) (λ n q a b. bit_xor a b) (λ q y z. xor y z) (λ q x y z. refl) (at1 (λ q. ends (auto_of 5) q) tt) (λ q. refl)
+    computes (op XOR) (λ n q a b. bit_xor a b) (λ q y z. xor y z) (λ q x y z. refl) (at1 (λ q. ends (auto_of (op XOR)) q) tt) (λ q. refl)
     (λ n q a b. xor_step a b ∙ ap (λ (d : ℕ). bit_xor (a / 2) (b / 2) * 2 + d) (ap₂ differ (low_one a) (low_one b) ∙ one_xor (odd a) (odd b)))
 
-pub sums : (n : ℕ) (q : Bool) (v : Lane → ℕ) → Under n v → Runs (auto_of 6) n q v ↔ (v lane_r ≡ (v lane_a + v lane_b + one q) % 2 ^ n)
-unfolding auto_of accepts machine
+pub sums : (n : ℕ) (q : Bool) (v : Lane → ℕ) → Under n v → Runs (auto_of (op ADD)) n q v ↔ (v lane_r ≡ (v lane_a + v lane_b + one q) % 2 ^ n)
+unfolding auto_of machine
 sums =
-    computes 6 (lit< tt) (λ n q a b. (a + b + one q) % 2 ^ n) (λ q y z. xor q (xor y z)) (λ q x y z. refl) (at1 (λ q. ends (auto_of 6) q) tt)
+    computes (op ADD) (λ n q a b. (a + b + one q) % 2 ^ n) (λ q y z. xor q (xor y z)) (λ q x y z. refl) (at1 (λ q. ends (auto_of (op ADD)) q) tt)
     (λ q. mod-one (0 + 0 + one q)) sum_step
 
-pub choices : (n : ℕ) (q : Bool) (v : Lane → ℕ) → Under n v → Runs (auto_of 7) n q v ↔ (v lane_r ≡ pick q (v lane_b) (v lane_a))
-unfolding auto_of accepts machine
+pub choices : (n : ℕ) (q : Bool) (v : Lane → ℕ) → Under n v → Runs (auto_of (op ITE)) n q v ↔ (v lane_r ≡ pick q (v lane_b) (v lane_a))
+unfolding auto_of machine
 choices =
-    computes 7 (lit< tt) (λ n q a b. pick q b a) (λ q y z. pick q z y) (λ q x y z. refl) (at1 (λ q. ends (auto_of 7) q) tt)
+    computes (op ITE) (λ n q a b. pick q b a) (λ q y z. pick q z y) (λ q x y z. refl) (at1 (λ q. ends (auto_of (op ITE)) q) tt)
     (λ q. same q) (λ n q a b. pick_step q a b)
   where
     same : (q : Bool) → pick {A = ℕ} q 0 0 ≡ 0

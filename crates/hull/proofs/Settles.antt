@@ -9,20 +9,19 @@ use Rattle.rules.specs.Kinds.{Place, R, A, B, S, Op, op}
 use Rattle.rules.specs.Meaning.{Shape, result}
 use Rattle.rules.specs.Fits.{Uses, Fit}
 use Rattle.rules.proofs.Used.{result_used, A≢R, B≢R, S≢R}
-use Rattle.problem.specs.declared.Bounds.{Bounds}
 use Rattle.hull.specs.Moves.{with_ra}
 use Rattle.hull.specs.ByColumns.{fixed_in, settled}
-use Rattle.problem.specs.Places.{shaped, span_of, lo_of, hi_of}
+use Rattle.problem.specs.Places.{Bounds, shaped, span_of, lo_of, hi_of}
 use Rattle.hull.specs.Narrowing.{Narrows}
 use Rattle.lists.proofs.Bools.{and_left, and_right}
 use Rattle.hull.proofs.Decided.{ends_owed, narrows}
 
 -- operands that the test finds fixed
-pub fixed_in_lem : (t : Bounds) → T (fixed_in t) → (t.al ≡ t.ah) × (t.bl ≡ t.bh) × (t.sl ≡ t.sh)
+pub fixed_in_lem : (t : Bounds) → T (fixed_in t) → (t.a.lo ≡ t.a.hi) × (t.b.lo ≡ t.b.hi) × (t.s.lo ≡ t.s.hi)
 fixed_in_lem t h =
-    let a = eqb t.al t.ah in
-    let b = eqb t.bl t.bh in
-    let s = eqb t.sl t.sh in
+    let a = eqb t.a.lo t.a.hi in
+    let b = eqb t.b.lo t.b.hi in
+    let s = eqb t.s.lo t.s.hi in
     (eqb→eq _ _ (and_left a b (and_left (a && b) s h)), eqb→eq _ _ (and_right a b (and_left (a && b) s h)), eqb→eq _ _ (and_right (a && b) s h))
 
 module _ (o : Op) (k : ℕ) (w : Place → ℕ) (t : Bounds) (v : ℕ) where
@@ -30,22 +29,22 @@ module _ (o : Op) (k : ℕ) (w : Place → ℕ) (t : Bounds) (v : ℕ) where
   σ = shaped (op o) k w
 
   abbrev l : ℕ
-  l = bit_or t.rl v
+  l = bit_or t.r.lo v
 
   abbrev h : ℕ
-  h = bit_and t.rh v
+  h = bit_and t.r.hi v
 
   abbrev left_over : Bounds
-  left_over = with_ra l h t.al t.ah t
+  left_over = with_ra l h t.a.lo t.a.hi t
 
   -- the one value at each place
   abbrev only : Place → ℕ
   only R = v
-  only A = t.al
-  only B = t.bl
-  only S = t.sl
+  only A = t.a.lo
+  only B = t.b.lo
+  only S = t.s.lo
 
-  module _ (fixed : (p : Place) → Uses σ p → p ≢ R → lo_of t p ≡ hi_of t p) (says : v ≡ result o w k t.al t.bl t.sl) where
+  module _ (fixed : (p : Place) → Uses σ p → p ≢ R → lo_of t p ≡ hi_of t p) (says : v ≡ result o w k t.a.lo t.b.lo t.s.lo) where
     is_only : {f : Place → ℕ} → Fit σ (span_of t) f → (p : Place) → Uses σ p → f p ≡ only p
     is_only {f} fit p used = go p used
       where
@@ -61,10 +60,10 @@ module _ (o : Op) (k : ℕ) (w : Place → ℕ) (t : Bounds) (v : ℕ) where
 
     module _ (q : l ⊑ h) where
       l_is : l ≡ v
-      l_is = ⊑_antisym (⊑_trans q (and_⊑_r t.rh v)) (⊑_or_r t.rl v)
+      l_is = ⊑_antisym (⊑_trans q (and_⊑_r t.r.hi v)) (⊑_or_r t.r.lo v)
 
       h_is : h ≡ v
-      h_is = ⊑_antisym (and_⊑_r t.rh v) (⊑_trans (⊑_or_r t.rl v) q)
+      h_is = ⊑_antisym (and_⊑_r t.r.hi v) (⊑_trans (⊑_or_r t.r.lo v) q)
 
       shows : (p : Place) → Uses σ p → (lo_of left_over p ≡ only p) × (hi_of left_over p ≡ only p)
       shows R used = (l_is, h_is)
@@ -76,13 +75,13 @@ module _ (o : Op) (k : ℕ) (w : Place → ℕ) (t : Bounds) (v : ℕ) where
       only_fit = record { from = from; to = to; holds = says }
         where
           from : (p : Place) → Uses σ p → lo_of t p ⊑ only p
-          from R used = ⊑_trans (⊑_or_l t.rl v) (⊑_trans q (and_⊑_r t.rh v))
+          from R used = ⊑_trans (⊑_or_l t.r.lo v) (⊑_trans q (and_⊑_r t.r.hi v))
           from A used = ⊑_refl _
           from B used = ⊑_refl _
           from S used = ⊑_refl _
 
           to : (p : Place) → Uses σ p → only p ⊑ hi_of t p
-          to R used = ⊑_trans (⊑_or_r t.rl v) (⊑_trans q (and_⊑_l t.rh v))
+          to R used = ⊑_trans (⊑_or_r t.r.lo v) (⊑_trans q (and_⊑_l t.r.hi v))
           to A used = rw (fixed A used A≢R) (⊑_refl _)
           to B used = rw (fixed B used B≢R) (⊑_refl _)
           to S used = rw (fixed S used S≢R) (⊑_refl _)

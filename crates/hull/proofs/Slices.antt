@@ -11,9 +11,8 @@ use Rattle.words.proofs.Meets.{and_mono}
 use Rattle.rules.specs.Kinds.{Place, R, A, B, S, Op, COPY, SLICE, SHR, op}
 use Rattle.rules.specs.Rows.{row, operand}
 use Rattle.rules.specs.Meaning.{result}
-use Rattle.problem.specs.declared.Bounds.{Bounds}
-use Rattle.hull.specs.Moves.{shl_by, bits_from, into_part, slice_of}
-use Rattle.problem.specs.Places.{shaped, span_of}
+use Rattle.hull.specs.Moves.{shl_by, bits_from, into_part, slice_of, moved_of}
+use Rattle.problem.specs.Places.{Bounds, shaped, span_of}
 use Rattle.hull.specs.Narrowing.{Narrows}
 use Rattle.hull.proofs.Parts.{by_parts, shl_low, shl_at, shl_out, shr_mono, part_at, part_high}
 use Rattle.hull.proofs.Alone.{alone_narrows}
@@ -42,13 +41,13 @@ module _ (k m x n : ℕ) where
   into_out i h = omega (arith, bit_xor_lem (k + i) x (shl_by d k), shl_out d k (k + i) h, bit_lt x (k + i))
 
 module _ (o : Op) (κ : ℕ) (w : Place → ℕ) (t : Bounds) (no_b : ¬ T (operand (row o) B)) (no_s : ¬ T (operand (row o) S)) (k m : ℕ)
-    (ba : Bounded 64 t.al t.ah)
-    (says : (a b s : ℕ) → a ⊑ t.ah → result o w κ a b s ≡ a / 2 ^ k % 2 ^ m) where
+    (ba : Bounded 64 t.a.lo t.a.hi)
+    (says : (a b s : ℕ) → a ⊑ t.a.hi → result o w κ a b s ≡ a / 2 ^ k % 2 ^ m) where
   -- what r can be has no bits from m on
-  small : {n : ℕ} → n ⊑ bits_from k m t.ah → (i : ℕ) → m ≤ i → bit n i ≡ 0
-  small q i l = omega (arith, q.bits i, part_high k m t.ah i l)
+  small : {n : ℕ} → n ⊑ bits_from k m t.a.hi → (i : ℕ) → m ≤ i → bit n i ≡ 0
+  small q i l = omega (arith, q.bits i, part_high k m t.a.hi i l)
 
-  mono : {a a' r r' : ℕ} → a ⊑ a' → r ⊑ r' → r' ⊑ bits_from k m t.ah → (i : ℕ) → Dec (i < m) → Dec (k + i < 64)
+  mono : {a a' r r' : ℕ} → a ⊑ a' → r ⊑ r' → r' ⊑ bits_from k m t.a.hi → (i : ℕ) → Dec (i < m) → Dec (k + i < 64)
       → bit (into_part k m a r) (k + i) ≤ bit (into_part k m a' r') (k + i)
   mono {a} {a'} {r} {r'} q n l i (yes h) (yes g) = omega (arith, into_at k m a r i h g, into_at k m a' r' i h g, n.bits i)
   mono {a} {a'} {r} {r'} q n l i (yes h) (no g) = omega (arith, into_out k m a r i (omega arith), into_out k m a' r' i (omega arith), q.bits (k + i))
@@ -56,15 +55,15 @@ module _ (o : Op) (κ : ℕ) (w : Place → ℕ) (t : Bounds) (no_b : ¬ T (oper
       let z = small l i (omega arith) in
       omega (arith, into_high k m a r i (omega arith) (omega (arith, n.bits i)), into_high k m a' r' i (omega arith) z, q.bits (k + i))
 
-  got : {a r : ℕ} → a ⊑ t.ah → r ⊑ bits_from k m t.ah → (i : ℕ) → Dec (i < m) → Dec (k + i < 64) → bit (bits_from k m (into_part k m a r)) i ≡ bit r i
+  got : {a r : ℕ} → a ⊑ t.a.hi → r ⊑ bits_from k m t.a.hi → (i : ℕ) → Dec (i < m) → Dec (k + i < 64) → bit (bits_from k m (into_part k m a r)) i ≡ bit r i
   got {a} {r} q l i (yes h) (yes g) = part_at k m _ i h ∙ into_at k m a r i h g
   got {a} {r} q l i (yes h) (no g) =
-      let z = bit_high t.ah 64 (k + i) ba.below (omega arith) in
-      omega (arith, part_at k m (into_part k m a r) i h, into_out k m a r i (omega arith), q.bits (k + i), l.bits i, part_at k m t.ah i h)
+      let z = bit_high t.a.hi 64 (k + i) ba.below (omega arith) in
+      omega (arith, part_at k m (into_part k m a r) i h, into_out k m a r i (omega arith), q.bits (k + i), l.bits i, part_at k m t.a.hi i h)
   got {a} {r} q l i (no h) g = part_high k m _ i (omega arith) ∙ sym (small l i (omega arith))
 
   slice_narrows : Narrows (shaped (op o) κ w) (span_of t) (slice_of k m t)
-  unfolding slice_of
+  unfolding moved_of
   slice_narrows =
       alone_narrows o κ w t no_b no_s (bits_from k m) (into_part k m)
       (record {
@@ -79,12 +78,12 @@ module _ (o : Op) (κ : ℕ) (w : Place → ℕ) (t : Bounds) (no_b : ¬ T (oper
         reached = λ {a} {r} q l. bits_ext _ _ (λ i. got q l i (dec_lt i m) (dec_lt (k + i) 64));
       })
 
-module _ (k : ℕ) (w : Place → ℕ) (t : Bounds) (wide : w A ≤ 64) (ba : Bounded (w A) t.al t.ah) where
-  bounds_64 : Bounded 64 t.al t.ah
+module _ (k : ℕ) (w : Place → ℕ) (t : Bounds) (wide : w A ≤ 64) (ba : Bounded (w A) t.a.lo t.a.hi) where
+  bounds_64 : Bounded 64 t.a.lo t.a.hi
   bounds_64 = record { under = ba.under; below = omega (arith, ba.below, pow_mono wide) }
 
   -- what lies under a's high bound keeps to the width of a, also shifted down
-  within : (i a : ℕ) → w R ≡ w A → a ⊑ t.ah → a / 2 ^ i % 2 ^ w R ≡ a / 2 ^ i
+  within : (i a : ℕ) → w R ≡ w A → a ⊑ t.a.hi → a / 2 ^ i % 2 ^ w R ≡ a / 2 ^ i
   within i a e q = mod-eq_of_lt (rw e (omega (arith, shr_le a i, ⊑_le _ _ q, ba.below)))
 
   pub copy_narrows : w R ≡ w A → Narrows (shaped (op COPY) k w) (span_of t) (slice_of 0 (w R) t)

@@ -1,32 +1,54 @@
 // The automata of the kinds that go by columns: a constant table.
-ghost use Rattle.std.specs.Prelude.{◌≡◌, ◌<◌};
+ghost use Rattle.std.specs.Prelude.{◌≡◌};
+ghost use Rattle.problem.specs.Named.{kind_named};
 ghost use Rattle.hull.specs.Automata.{auto_of};
 
-use crate::Auto;
+use crate::{Auto, States};
+use problem::kinds::Kind;
 
-// The masks of each kind, by its number: the columns from state 0 to 0, 0 to 1, 1 to 0 and 1 to 1; sweep.rt explains masks. Kinds that move bits have none.
-const T00: [u64; 15] = [0, 0, 0, 135, 225, 105, 97, 165, 0, 0, 0, 0, 221, 221, 153];
+// The states in which a kind may end: state 1, both, or none for the kinds that have no automaton.
+const ONE: States = States {
+    zero: false,
+    one: true,
+};
 
-const T01: [u64; 15] = [0, 0, 0, 0, 0, 0, 8, 0, 0, 0, 0, 0, 34, 34, 102];
+const BOTH: States = States {
+    zero: true,
+    one: true,
+};
 
-const T10: [u64; 15] = [0, 0, 0, 0, 0, 0, 16, 0, 0, 0, 0, 0, 68, 68, 0];
+const NO_STATE: States = States {
+    zero: false,
+    one: false,
+};
 
-const T11: [u64; 15] = [0, 0, 0, 135, 225, 105, 134, 195, 0, 0, 0, 0, 187, 187, 255];
-
-// The states in which each kind ends: 2 state 1, 3 both.
-const ENDS: [u64; 15] = [0, 0, 0, 3, 3, 3, 3, 3, 0, 0, 0, 0, 2, 2, 2];
-
-pub fn auto_of(kind: usize) -> Auto
-    requires { kind < 15 }
-    ensures { result ≡ auto_of kind }
+fn auto(t00: u64, t01: u64, t10: u64, t11: u64, ends: States) -> Auto
+    ensures { result ≡ record { t00 = t00; t01 = t01; t10 = t10; t11 = t11; ends = ends } }
 {
-    let e = ENDS[kind];
     Auto {
-        t00: T00[kind],
-        t01: T01[kind],
-        t10: T10[kind],
-        t11: T11[kind],
-        e0: e % 2 == 1,
-        e1: e / 2 == 1,
+        t00,
+        t01,
+        t10,
+        t11,
+        ends,
+    }
+}
+
+// The masks of each kind, of the columns from state 0 to 0, 0 to 1, 1 to 0 and 1 to 1, and the states in which it ends; sweep.rt explains masks.
+// Kinds that move bits have none.
+#[tactic(auto, unfolding(crate::specs::Automata::auto_of))]
+pub fn auto_of(kind: Kind) -> Auto
+    ensures { result ≡ auto_of (kind_named kind) }
+{
+    match kind {
+        Kind::And => auto(135, 0, 0, 135, BOTH),
+        Kind::Or => auto(225, 0, 0, 225, BOTH),
+        Kind::Xor => auto(105, 0, 0, 105, BOTH),
+        Kind::Add => auto(97, 8, 16, 134, BOTH),
+        Kind::Ite => auto(165, 0, 0, 195, BOTH),
+        Kind::Ule => auto(221, 34, 68, 187, ONE),
+        Kind::Ult => auto(221, 34, 68, 187, ONE),
+        Kind::Ne => auto(153, 102, 0, 255, ONE),
+        _ => auto(0, 0, 0, 0, NO_STATE),
     }
 }

@@ -2,7 +2,8 @@
 use mathlib.Core.Path.{◌≡◌, sym, ap, ◌∙◌}
 use Prim.Native.Nat.{ℕ, ◌/◌, ◌%◌}
 use native.Mathlib.Omega.{arith}
-use Rattle.packing.specs.Packed.{Parts, parts, packed, unpacked, Within, Returns}
+use Rattle.packing.specs.declared.Parts.{Parts}
+use Rattle.packing.specs.Packed.{parts, packed, unpacked, Within, Returns}
 
 -- the parts in one number, each at its bits
 pub packed_apart : (p : Parts) → Within p → unpacked (packed p) ≡ p
@@ -12,6 +13,11 @@ packed_apart p h =
   where
     go : (n c m : ℕ) → n ≡ p.number → c ≡ p.count → m ≡ p.more → parts n c m ≡ p
     go n c m a b d = rw (a, b, d)
+
+-- what a call returns: its answer x, packed
+pub returning : {A : Type 0} {P : A → Type 0} {parts_of : A → Parts} {r : ℕ} (x : A) → P x → Within (parts_of x) → r ≡ packed (parts_of x)
+    → Returns P parts_of r
+returning x p w n = record { answer = x; promised = p; within = w; number = n }
 
 -- what comes back, taken apart, is the answer
 pub returned_apart : {A : Type 0} {P : A → Type 0} {parts_of : A → Parts} {r : ℕ} (x : Returns P parts_of r) → unpacked r ≡ parts_of x.answer

@@ -1,5 +1,7 @@
 -- To be believed: the numbers of the answers that are no refusals, for all calls. Refusals have the paper's own numbers, which are below 32.
 use Rattle.std.specs.Prelude.{ℕ}
+use Rattle.packing.specs.declared.Code.{Code}
+use Rattle.packing.specs.declared.Code.TheVariants as code
 
 abbrev pub FOUND : ℕ
 FOUND = 32
@@ -30,3 +32,16 @@ EXISTS = 40
 
 abbrev pub CAUSE : ℕ
 CAUSE = 41
+
+-- the same by their names in the code
+abbrev pub numbered : Code → ℕ
+numbered code.Found = FOUND
+numbered code.None = NONE
+numbered code.GaveUp = GAVE_UP
+numbered code.Ok = OK
+numbered code.Tight = TIGHT
+numbered code.Conflict = CONFLICT
+numbered code.Forced = FORCED
+numbered code.Free = FREE
+numbered code.Exists = EXISTS
+numbered code.Cause = CAUSE

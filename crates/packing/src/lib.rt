@@ -3,127 +3,159 @@
 #![tactic(auto)]
 
 ghost use Rattle.std.specs.Prelude.{◌≡◌};
-ghost use Rattle.packing.specs.Packed.{parts, packed, Within, checked, tightened, solved, explained, caused, read, written, advised};
+ghost use Rattle.packing.specs.Numbers.{numbered};
+ghost use Rattle.packing.specs.declared.Parts.{Parts};
+ghost use Rattle.packing.specs.Packed.{packed, Within, returned, passed, tight_or_not, settings, reason, named, counts, long};
 
-use blocks::{Reading, Written};
+use blocks::Problem;
 use cause::Caused;
-use checker::Checked;
+use checker::Refusal;
 use explain::Explained;
-use report::Advised;
 use solve::Solved;
-use tighten::Answer;
 
-// The numbers of the answers that are no refusals.
-const FOUND: u64 = 32;
-
-const NONE: u64 = 33;
-
-const GAVE_UP: u64 = 34;
-
-const OK: u64 = 35;
-
-const TIGHT: u64 = 36;
-
-const CONFLICT: u64 = 37;
-
-const FORCED: u64 = 38;
-
-const FREE: u64 = 39;
-
-const EXISTS: u64 = 40;
-
-const CAUSE: u64 = 41;
-
-fn pack(number: u64, count: u64, more: u64) -> u64
-    requires { Within (parts number count more) }
-    ensures { result ≡ packed (parts number count more) }
-{
-    number + 256 * count + 1099511627776 * more
+// The answers that are no refusals, with their numbers, as C gets them.
+#[derive(Clone, Copy, Debug, PartialEq, Eq)]
+pub enum Code {
+    Found = 32,
+    None = 33,
+    GaveUp = 34,
+    Ok = 35,
+    Tight = 36,
+    Conflict = 37,
+    Forced = 38,
+    Free = 39,
+    Exists = 40,
+    Cause = 41,
 }
 
-pub fn of_checked(x: Checked) -> u64
-    requires { Within (checked x) }
-    ensures { result ≡ packed (checked x) }
-{
-    match x {
-        Checked::Ok => pack(OK, 0, 0),
-        Checked::Refused(number, place) => pack(number, place, 0),
+// What stands in the one number: the answer's own number; its place, count, value, limit or length; and how many entries or records there are.
+#[derive(Clone, Copy, Debug, PartialEq, Eq)]
+pub struct Parts {
+    pub number: u64,
+    pub count: u64,
+    pub more: u64,
+}
+
+impl Parts {
+    fn answer(code: Code, count: u64, more: u64) -> Parts
+        ensures { result ≡ record { number = numbered code; count = count; more = more } }
+    {
+        Parts::new(code as u64, count, more)
+    }
+
+    fn new(number: u64, count: u64, more: u64) -> Parts
+        ensures { result ≡ record { number = number; count = count; more = more } }
+    {
+        Parts {
+            number,
+            count,
+            more,
+        }
+    }
+
+    fn pack(self) -> u64
+        requires { Within self }
+        ensures { result ≡ packed self }
+    {
+        self.number + 256 * self.count + 1099511627776 * self.more
     }
 }
 
-pub fn of_tightened(x: Answer) -> u64
-    requires { Within (tightened x) }
-    ensures { result ≡ packed (tightened x) }
-{
-    match x {
-        Answer::Tight => pack(TIGHT, 0, 0),
-        Answer::Conflict => pack(CONFLICT, 0, 0),
-        Answer::Refused(number, place) => pack(number, place, 0),
+// An answer that is no refusal.
+pub trait Answer {
+    ghost parts: { Self → Parts };
+
+    fn into_parts(self) -> Parts
+        requires { Within (parts self) }
+        ensures { result ≡ parts self };
+}
+
+// `check`: the problem is proper.
+impl Answer for () {
+    ghost parts = { passed };
+
+    fn into_parts(self) -> Parts {
+        Parts::answer(Code::Ok, 0, 0)
     }
 }
 
-pub fn of_solved(x: Solved) -> u64
-    requires { Within (solved x) }
-    ensures { result ≡ packed (solved x) }
-{
-    match x {
-        Solved::Found(count) => pack(FOUND, count, 0),
-        Solved::Nothing(count) => pack(NONE, count, 0),
-        Solved::GaveUp(count) => pack(GAVE_UP, count, 0),
-        Solved::Refused(number, place) => pack(number, place, 0),
+impl Answer for tighten::Answer {
+    ghost parts = { tight_or_not };
+
+    fn into_parts(self) -> Parts {
+        match self {
+            tighten::Answer::Tight => Parts::answer(Code::Tight, 0, 0),
+            tighten::Answer::Conflict => Parts::answer(Code::Conflict, 0, 0),
+        }
     }
 }
 
-pub fn of_explained(x: Explained) -> u64
-    requires { Within (explained x) }
-    ensures { result ≡ packed (explained x) }
-{
-    match x {
-        Explained::Conflict(entries) => pack(CONFLICT, 0, entries),
-        Explained::Forced(value, entries) => pack(FORCED, value, entries),
-        Explained::Free => pack(FREE, 0, 0),
-        Explained::Refused(number, place) => pack(number, place, 0),
+impl Answer for Solved {
+    ghost parts = { settings };
+
+    fn into_parts(self) -> Parts {
+        match self {
+            Solved::Found(count) => Parts::answer(Code::Found, count, 0),
+            Solved::Nothing(count) => Parts::answer(Code::None, count, 0),
+            Solved::GaveUp(count) => Parts::answer(Code::GaveUp, count, 0),
+        }
     }
 }
 
-pub fn of_caused(x: Caused) -> u64
-    requires { Within (caused x) }
-    ensures { result ≡ packed (caused x) }
-{
-    match x {
-        Caused::Exists(count) => pack(EXISTS, count, 0),
-        Caused::GaveUp(count) => pack(GAVE_UP, count, 0),
-        Caused::Cause(count, entries) => pack(CAUSE, count, entries),
-        Caused::Refused(number, place) => pack(number, place, 0),
+impl Answer for Explained {
+    ghost parts = { reason };
+
+    fn into_parts(self) -> Parts {
+        match self {
+            Explained::Conflict(entries) => Parts::answer(Code::Conflict, 0, entries),
+            Explained::Forced(value, entries) => Parts::answer(Code::Forced, value, entries),
+            Explained::Free => Parts::answer(Code::Free, 0, 0),
+        }
     }
 }
 
-pub fn of_read(x: Reading) -> u64
-    requires { Within (read x) }
-    ensures { result ≡ packed (read x) }
-{
-    match x {
-        Reading::Ok(y) => pack(OK, y.limit as u64, y.words as u64 + 256 * y.rules as u64),
-        Reading::Refused(number, place) => pack(number, place, 0),
+impl Answer for Caused {
+    ghost parts = { named };
+
+    fn into_parts(self) -> Parts {
+        match self {
+            Caused::Exists(count) => Parts::answer(Code::Exists, count, 0),
+            Caused::GaveUp(count) => Parts::answer(Code::GaveUp, count, 0),
+            Caused::Cause(count, entries) => Parts::answer(Code::Cause, count, entries),
+        }
     }
 }
 
-pub fn of_written(x: Written) -> u64
-    requires { Within (written x) }
-    ensures { result ≡ packed (written x) }
-{
-    match x {
-        Written::Ok(length) => pack(OK, length as u64, 0),
-        Written::Refused(number, place) => pack(number, place, 0),
+// `read`: what the file holds.
+impl Answer for Problem {
+    ghost parts = { counts };
+
+    fn into_parts(self) -> Parts {
+        Parts::answer(
+            Code::Ok,
+            u64::from(self.limit),
+            self.words as u64 + 256 * self.rules as u64,
+        )
     }
 }
 
-pub fn of_advised(x: Advised) -> u64
-    requires { Within (advised x) }
-    ensures { result ≡ packed (advised x) }
-{
-    match x {
-        Advised::Lines(length) => pack(OK, length as u64, 0),
-        Advised::Refused(number, place) => pack(number, place, 0),
+// `write` and `advise`: the length of the file, or of the lines.
+impl Answer for usize {
+    ghost parts = { long };
+
+    fn into_parts(self) -> Parts {
+        Parts::answer(Code::Ok, self as u64, 0)
     }
+}
+
+// The answer of a call, or its refusal, as one number.
+pub fn pack<A: Answer>(x: Result<A, Refusal>) -> u64
+    requires { Within (returned A.parts x) }
+    ensures { result ≡ packed (returned A.parts x) }
+{
+    let parts = match x {
+        Ok(answer) => answer.into_parts(),
+        Err(refusal) => Parts::new(refusal.number(), refusal.place(), 0),
+    };
+    parts.pack()
 }

@@ -1,3 +1,2 @@
 pub mod Lents
-pub mod RowNumbers
 pub mod Readings

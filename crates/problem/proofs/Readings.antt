@@ -11,6 +11,8 @@ use Rattle.rules.specs.Kinds.{Place, R, A, B, S, Kind, op, rel, kind_of}
 use Rattle.rules.specs.Rows.{uses}
 use Rattle.rules.specs.Tight.{Rule, word, shape, span}
 use Rattle.rules.specs.ProperProblem.{ProperRule}
+use Rattle.problem.specs.declared.kinds.Kind as kinds
+use Rattle.problem.specs.Named.{kind_named}
 use Rattle.problem.specs.Lent.{stride, widths_of, table_of, rule_at}
 use Rattle.problem.specs.Places.{width_of, lo_of, hi_of, span_of, shape_of}
 use Rattle.problem.specs.Reading.{fields_at, rule_of, widths_at, bounds_at}
@@ -34,9 +36,10 @@ words_below {w} {ρ} h p = go (uses (kind_of ρ.kind) p) refl
     go false e = omega (arith, h.fields.unused p (λ u. subst T e u), h.fields.used A (uses_a (kind_of ρ.kind)))
 
 module _ (ws bs : List ℕ) (whole : length ws % stride ≡ 0) (n : ℕ) where
-  pub shape_read : shape_of (fields_at bs n).kind (fields_at bs n).k (widths_at ws (fields_at bs n)) ≡ shape (widths_of ws) (rule_at bs n)
+  pub shape_read : (κ : kinds.Kind) → kind_named κ ≡ kind_of (fields_at bs n).kind
+      → shape_of κ (fields_at bs n).k (widths_at ws (fields_at bs n)) ≡ shape (widths_of ws) (rule_at bs n)
   unfolding fields_at widths_at
-  shape_read = λ i. record { kind = kind_of (rule_at bs n).kind; k = (rule_at bs n).k; width = fun_ext width i }
+  shape_read κ e = λ i. record { kind = e i; k = (rule_at bs n).k; width = fun_ext width i }
     where
       width : (p : Place) → width_of (widths_at ws (fields_at bs n)) p ≡ at (widths_of ws) (word (rule_at bs n) p)
       width R = sym (width_at_lem ws whole (rule_at bs n).r)

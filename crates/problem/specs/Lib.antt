@@ -1,4 +1,4 @@
+pub mod Named
 pub mod Lent
-pub mod Rows
 pub mod Places
 pub mod Reading

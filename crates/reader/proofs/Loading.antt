@@ -1,39 +1,50 @@
--- A number loaded from its bytes, the highest first: one byte more a turn.
-use mathlib.Core.Path.{◌≡◌}
-use mathlib.Core.List.{List}
-use Prim.Native.Nat.{ℕ, suc, ◌+◌, ◌*◌, ◌^◌, ◌<◌, ◌≤◌, ◌-◌}
+-- A number made of its bytes, the lowest first.
+use mathlib.Core.Path.{◌≡◌, refl, ◌∙◌}
+use mathlib.Core.List.{List, [], ◌∷◌}
+use Prim.Native.Nat.{ℕ, zero, suc, ◌+◌, ◌*◌, ◌≤◌, ◌-◌}
 use native.Mathlib.Omega.{arith}
-use lib.ListN.{length}
-use Rattle.lists.specs.Lists.{at, part, Under}
+use lib.ListN.{length, take, drop, drop_of_length-le}
+use Rattle.std.proofs.Common.{Result, Ok, MatchResult}
+use Rattle.std.specs.Array.{IsWholeChunk}
+use Rattle.lists.specs.Lists.{at, part}
 use Rattle.blocks.specs.Bytes.{from_le}
-use Rattle.lists.proofs.Parts.{part_cons, short_part}
-use Rattle.lists.proofs.Unders.{under_part}
-use Rattle.blocks.proofs.Numbers.{number_under}
+use Rattle.lists.proofs.Parts.{at_part, short_part}
 
-pub load_start : (b : List ℕ) (a k : ℕ) → 0 ≡ from_le (part b (a + k) (k - k))
-unfolding from_le part
-load_start b a k = let z : k - k ≡ 0 = omega arith in rw z
-
-pub load_turn : (b : List ℕ) (a k i x y : ℕ) → 0 < i → i ≤ k → a + k ≤ length b → x ≡ from_le (part b (a + i) (k - i)) → y ≡ at b (a + (i - 1))
-    → x * 256 + y ≡ from_le (part b (a + (i - 1)) (k - (i - 1)))
+-- from byte n on
+le_at : (y : List ℕ) (n : ℕ) → from_le (drop n y) ≡ at y n + 256 * from_le (drop (suc n) y)
 unfolding from_le
-load_turn b a k i x y p q l e h =
-    let u : k - (i - 1) ≡ suc (k - i) = omega arith in
-    let v : suc (a + (i - 1)) ≡ a + i = omega arith in
-    rw (u, part_cons b (a + (i - 1)) (k - i) (omega arith), v) (omega arith)
+le_at [] zero = refl
+le_at [] (suc n) = refl
+le_at (x ∷ y) zero = refl
+le_at (x ∷ y) (suc n) = le_at y n
 
--- with a byte still to come there is room for it
-pub load_fits : (b : List ℕ) (a m x : ℕ) → Under 256 b → m ≤ 7 → x ≡ from_le (part b a m) → x < 256 ^ 7
-load_fits b a m x u h e =
-    rw e (number_under 7 (part b a m) (omega (arith, short_part b a m)) (under_part 256 b a m (omega arith) u))
+le_past : (y : List ℕ) (n : ℕ) → length y ≤ n → from_le (drop n y) ≡ 0
+unfolding from_le
+le_past y n h = rw (drop_of_length-le y h) refl
 
-pub load_end : (b : List ℕ) (a k i x : ℕ) → i ≤ 0 → x ≡ from_le (part b (a + i) (k - i)) → x ≡ from_le (part b a k)
-load_end b a k i x h e =
-    let z : i ≡ 0 = omega arith in
-    let u : a + 0 ≡ a = omega arith in
-    let v : k - 0 ≡ k = omega arith in
-    rw (z, u, v) at e
+four_bytes : (y : List ℕ) → length y ≤ 4 → at y 0 + at y 1 * 256 + at y 2 * 65536 + at y 3 * 16777216 ≡ from_le y
+four_bytes y h = omega (arith, le_at y 0, le_at y 1, le_at y 2, le_at y 3, le_past y 4 h)
 
--- four bytes make a number that fits the limit
-pub four_fit : (b : List ℕ) (a x : ℕ) → Under 256 b → x ≡ from_le (part b a 4) → x < 2 ^ 32
-four_fit b a x u e = rw e (number_under 4 (part b a 4) (short_part b a 4) (under_part 256 b a 4 (omega arith) u))
+pub limit_bytes : (b : List ℕ) → at b 8 + at b 9 * 256 + at b 10 * 65536 + at b 11 * 16777216 ≡ from_le (part b 8 4)
+limit_bytes b =
+    let p : at (part b 8 4) 0 ≡ at b 8 = at_part b 8 4 0 (omega arith) in
+    let q : at (part b 8 4) 1 ≡ at b 9 = at_part b 8 4 1 (omega arith) in
+    let r : at (part b 8 4) 2 ≡ at b 10 = at_part b 8 4 2 (omega arith) in
+    let s : at (part b 8 4) 3 ≡ at b 11 = at_part b 8 4 3 (omega arith) in
+    rw (← p, ← q, ← r, ← s) (four_bytes (part b 8 4) (short_part b 8 4))
+
+pub eight_bytes : (y : List ℕ) → length y ≤ 8
+    → at y 0 + at y 1 * 256 + at y 2 * 65536 + at y 3 * 16777216 + at y 4 * 4294967296 + at y 5 * 1099511627776 + at y 6 * 281474976710656
+    + at y 7 * 72057594037927936
+    ≡ from_le y
+eight_bytes y h =
+    omega (arith, le_at y 0, le_at y 1, le_at y 2, le_at y 3, le_at y 4, le_at y 5, le_at y 6, le_at y 7, le_past y 8 h)
+
+-- eight bytes of a file as an array
+pub eight_of : {E : Type 0} (b : List ℕ) (a : ℕ) (y : List ℕ) (r : Result (List ℕ) E) (Q : E → Type 0)
+    → MatchResult r (λ z. IsWholeChunk (take (a + 8 - a) (drop a b)) z 8) Q → r ≡ Ok y → y ≡ part b a 8
+unfolding part
+eight_of b a y r Q m e =
+    let w : IsWholeChunk (take (a + 8 - a) (drop a b)) y 8 = rw e at m in
+    let n : a + 8 - a ≡ 8 = omega arith in
+    w.same ∙ rw n refl

@@ -2,10 +2,14 @@
 use mathlib.Core.Path.{◌≡◌, refl, sym, ◌∙◌, subst}
 use mathlib.Core.List.{List}
 use Prim.Native.Nat.{ℕ, zero, suc, ◌+◌, ◌*◌, ◌/◌, ◌%◌, ◌≤◌, ◌-◌}
-use native.Mathlib.Numerals.{add-one, sub-one}
+use native.Mathlib.Numerals.{sub-one}
 use native.Mathlib.Omega.{arith}
 use lib.ListN.{length, take, drop}
+use Rattle.std.specs.Prelude.{Option, Some, None, Ok, Err, ok_or}
+use Rattle.checker.specs.declared.refusal.Refusal.{Refusal}
+use Rattle.checker.specs.declared.refusal.Refusal.TheVariants.{Size, Check, Layout}
 use Rattle.lists.specs.Lists.{part, Under}
+use Rattle.blocks.specs.declared.Problem.{Problem}
 use Rattle.blocks.specs.Edition.{edition1}
 use Rattle.blocks.specs.Block.{sum, Sound}
 use Rattle.blocks.specs.File.{block_at, Begins, Whole, Fault}
@@ -14,10 +18,7 @@ use Rattle.blocks.proofs.Fair.{fair1}
 use Rattle.blocks.proofs.Machine.{accepted_begins, begins_accepted}
 use Rattle.blocks.proofs.Once.{run_once, run_no_end, none_after_end}
 use Rattle.blocks.proofs.Shape.{ended_proper}
-use Rattle.reader.specs.declared.Step.{Step}
 use Rattle.reader.specs.declared.State.{State}
-use Rattle.reader.specs.declared.Turn.{Turn}
-use Rattle.reader.specs.declared.Scan.{Scan}
 use Rattle.reader.specs.Scans.{Stuck, BlockStep, words_step, rules_step, end_step, fault_step, Stands, going, ended, Turned, on, stop, Scanned}
 
 -- the part that the code looks at is the block
@@ -25,7 +26,7 @@ pub cut : (f : List ℕ) (i : ℕ) → take (512 * i + 512 - 512 * i) (drop (512
 unfolding part
 cut f i = let z : 512 * i + 512 - 512 * i ≡ 512 = omega arith in rw z
 
-pub stepped_there : (f : List ℕ) (i : ℕ) {n m : ℕ} {s : Step} → BlockStep (take (512 * i + 512 - 512 * i) (drop (512 * i) f)) i n m s
+pub stepped_there : (f : List ℕ) (i : ℕ) {n m : ℕ} {s : Option State} → BlockStep (take (512 * i + 512 - 512 * i) (drop (512 * i) f)) i n m s
     → BlockStep (block_at f i) i n m s
 stepped_there f i {n} {m} {s} = subst (λ b. BlockStep b i n m s) (cut f i)
 
@@ -69,60 +70,59 @@ stands_accepted (ended x) = Accepted.ended x
 pub of_going : {f : List ℕ} {i n m : ℕ} → Stands f i (State.Going n m) → Run edition1 f i n m
 of_going (going r) = r
 
-of_ended : {f : List ℕ} {i n m l : ℕ} → Stands f i (State.Ended n m l) → Ended edition1 f i n m l
+of_ended : {f : List ℕ} {i : ℕ} {x : Problem} → Stands f i (State.Ended x) → Ended edition1 f i x.words x.rules x.limit
 of_ended (ended x) = x
 
 module _ {f : List ℕ} {i : ℕ} (here : Here f i) where
   begun : {s : State} → Stands f i s → Begins edition1 f i
   begun x = accepted_begins edition1 fair1 f here.under (omega (arith, here.room)) (stands_accepted x)
 
-  at_fault : {s : State} → Stands f i s → Sound (block_at f i) → ¬ Accepted edition1 f (suc i) → Turned f i (Turn.Stop 3 i)
+  at_fault : {s : State} → Stands f i s → Sound (block_at f i) → ¬ Accepted edition1 f (suc i) → Turned f i (Err (Layout i))
   at_fault x s n = stop (Fault.layout {i = i} (omega (arith, here.room)) (begun x) s (λ b. n (begins_accepted edition1 fair1 f b)))
 
-  pub turn_check : {s : State} → Stands f i s → ¬ Sound (block_at f i) → Turned f i (Turn.Stop 2 i)
+  pub turn_check : {s : State} → Stands f i s → ¬ Sound (block_at f i) → Turned f i (Err (Check i))
   turn_check x n = stop (Fault.check {i = i} (omega (arith, here.room)) (begun x) n)
 
-  pub turn_ended : {n m l : ℕ} → Stands f i (State.Ended n m l) → Sound (block_at f i) → Turned f i (Turn.Stop 3 i)
+  pub turn_ended : {y : Problem} → Stands f i (State.Ended y) → Sound (block_at f i) → Turned f i (Err (Layout i))
   turn_ended x s = at_fault x s (ended_accepts f (of_ended x))
 
   module _ {n m : ℕ} (x : Stands f i (State.Going n m)) where
-    pub turn_fault : Sound (block_at f i) → BlockStep (block_at f i) i n m Step.Fault → Turned f i (Turn.Stop 3 i)
+    turn_fault : Sound (block_at f i) → BlockStep (block_at f i) i n m None → Turned f i (Err (Layout i))
     turn_fault s (fault_step t) = at_fault x s (stuck_accepts f (of_going x) t)
 
-    pub turn_go : {n' m' : ℕ} → BlockStep (block_at f i) i n m (Step.Go n' m') → Turned f i (Turn.On (State.Going n' m'))
-    turn_go {n'} (words_step {c = c} b p q e l z) =
+    turn_on : {s : State} → BlockStep (block_at f i) i n m (Some s) → Turned f i (Ok s)
+    turn_on (words_step {n' = n'} {c = c} b p q e l z) =
         on (going (subst (λ k. Run edition1 f (suc i) n' k) (sym z) (more_words {c = c} (subst (λ k. Run edition1 f i n k) p (of_going x)) q e l b)))
-    turn_go {n'} {m'} (rules_step {c = c} b q e l z) = on (going {n = n'} {m = m'} (rw z (more_rules {c = c} (of_going x) q e l b)))
+    turn_on (rules_step {n' = n'} {m' = m'} {c = c} b q e l z) = on (going {n = n'} {m = m'} (rw z (more_rules {c = c} (of_going x) q e l b)))
+    turn_on (end_step y) = on (ended (end (of_going x) y))
 
-    pub turn_done : {l : ℕ} → BlockStep (block_at f i) i n m (Step.Done l) → Turned f i (Turn.On (State.Ended n m l))
-    turn_done (end_step y) = on (ended (end (of_going x) y))
+    pub turn_next : {s : Option State} → Sound (block_at f i) → BlockStep (block_at f i) i n m s → Turned f i (ok_or s (Layout i))
+    turn_next {s = None} s t = turn_fault s t
+    turn_next {s = Some y} s t = turn_on t
 
 -- ---- all blocks
 
 module _ {f : List ℕ} where
-  pub of_on : {i : ℕ} {s : State} → Turned f i (Turn.On s) → Stands f (i + 1) s
-  of_on (on x) = rw add-one x
-
-  pub of_stop : {i number place : ℕ} → Whole edition1 f → Turned f i (Turn.Stop number place) → Scanned f (Scan.Refused number place)
+  pub of_stop : {i : ℕ} {r : Refusal} → Whole edition1 f → Turned f i (Err r) → Scanned f (Err r)
   of_stop w (stop x) = Scanned.fault w x
 
   pub at_start : Stands f 0 (State.Going 0 0)
   at_start = going start
 
-  pub not_whole : (length f % 512 ≡ 0 → 1 ≤ length f / 512 → length f / 512 ≤ 7 → ⊥) → Scanned f (Scan.Refused 1 0)
+  pub not_whole : (length f % 512 ≡ 0 → 1 ≤ length f / 512 → length f / 512 ≤ 7 → ⊥) → Scanned f (Err Size)
   not_whole h = Scanned.size (λ w. h w.whole w.some w.most)
 
   -- all blocks are passed, and the machine still goes on
   pub unended : {i n m : ℕ} → Whole edition1 f → Under 256 f → i ≤ length f / 512 → length f / 512 ≤ i → Stands f i (State.Going n m)
-      → Scanned f (Scan.Refused 3 (length f / 512 - 1))
+      → Scanned f (Err (Layout (length f / 512 - 1)))
   unended {i} {n} {m} w u p q x = go (length f / 512) refl (subst (λ k. Run edition1 f k n m) (omega arith) (of_going x))
     where
-      go : (k : ℕ) → length f / 512 ≡ k → Run edition1 f k n m → Scanned f (Scan.Refused 3 (k - 1))
+      go : (k : ℕ) → length f / 512 ≡ k → Run edition1 f k n m → Scanned f (Err (Layout (k - 1)))
       go zero e r = absurd (omega (arith, w.some))
       go (suc j) e r =
           rw sub-one
           (Scanned.fault w (Fault.last {i = j} (sym e) (accepted_begins edition1 fair1 f u (omega arith) (Accepted.going r)) (λ l y. run_no_end r y)))
 
-  pub all_read : {i n m l : ℕ} → Whole edition1 f → Under 256 f → i ≤ length f / 512 → length f / 512 ≤ i → Stands f i (State.Ended n m l)
-      → Scanned f (Scan.Whole (record { words = n; rules = m; limit = l }))
+  pub all_read : {i : ℕ} {x : Problem} → Whole edition1 f → Under 256 f → i ≤ length f / 512 → length f / 512 ≤ i → Stands f i (State.Ended x)
+      → Scanned f (Ok x)
   all_read w u p q x = Scanned.whole (ended_proper edition1 fair1 f u (omega (arith, w.whole)) (of_ended x))

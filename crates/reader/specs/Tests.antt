@@ -1,5 +1,5 @@
 -- Mirrors code: what the tests of one block tell.
-use Rattle.std.specs.Prelude.{List, ℕ, ◌+◌, ◌*◌, ◌<◌}
+use Rattle.std.specs.Prelude.{List, ℕ, ◌+◌, ◌*◌, ◌<◌, Option, Some, None}
 use Rattle.blocks.specs.Edition.{edition1}
 use Rattle.blocks.specs.Block.{Clear, WordsBlock, RulesBlock, EndBlock}
 use Rattle.reader.specs.declared.Body.{Body}
@@ -15,8 +15,8 @@ pub record NoBlock (i : ℕ) (b : List ℕ) : Type 0 where
   pub ends : (limit : ℕ) → ¬ EndBlock edition1 i limit b
 
 -- what a block is as block i
-pub data Is (i : ℕ) (b : List ℕ) : Body → Type 0 where
-  words_block : {c : ℕ} → WordsBlock edition1 i c b → Is i b (Body.Words c)
-  rules_block : {c : ℕ} → RulesBlock edition1 i c b → Is i b (Body.Rules c)
-  end_block : {limit : ℕ} → EndBlock edition1 i limit b → Is i b (Body.End limit)
-  bad : NoBlock i b → Is i b Body.Bad
+pub data Is (i : ℕ) (b : List ℕ) : Option Body → Type 0 where
+  words_block : {c : ℕ} → WordsBlock edition1 i c b → Is i b (Some (Body.Words c))
+  rules_block : {c : ℕ} → RulesBlock edition1 i c b → Is i b (Some (Body.Rules c))
+  end_block : {limit : ℕ} → EndBlock edition1 i limit b → Is i b (Some (Body.End limit))
+  bad : NoBlock i b → Is i b None

@@ -8,7 +8,8 @@ ghost use Rattle.blocks.specs.Written.{word_blocks, rule_blocks};
 ghost use Rattle.blocks.specs.Decode.{slot, words_in, rules_in};
 
 use crate::block::load;
-use checker::Checked;
+use blocks::Problem;
+use checker::Refusal;
 use problem::{FIELDS, STRIDE};
 
 // The first byte of item x of blocks that follow each other, 63 items of eight bytes to a block.
@@ -24,10 +25,8 @@ pub fn store_words(file: &[u8], out: &mut [u64], n: usize)
     requires { (n ≤ 32) × (stride * n ≤ length out.old) × (512 * word_blocks edition1 n ≤ length file.now) }
     ensures { out.new ≡ put out.old 0 (words_in file.now n) }
 {
-    let mut x = 0;
-    while x < STRIDE * n {
-        out[x] = load(file, slot_of(x), 8);
-        x += 1;
+    for (x, number) in out[..STRIDE * n].iter_mut().enumerate() {
+        *number = load(file, slot_of(x));
     }
 }
 
@@ -37,23 +36,23 @@ pub fn store_rules(file: &[u8], out: &mut [u8], n: usize, m: usize)
     ensures { out.new ≡ put out.old 0 (rules_in file.now n m) }
 {
     let before = 512 * ((n + 20) / 21);
-    let mut x = 0;
-    while x < FIELDS * m {
-        out[x] = file[before + slot_of(x / FIELDS) + x % FIELDS];
-        x += 1;
+    for (x, byte) in out[..FIELDS * m].iter_mut().enumerate() {
+        *byte = file[before + slot_of(x / FIELDS) + x % FIELDS];
     }
 }
 
 // Refusals 4 to 9 of the problem in a proper file. It is unpacked here, so that nothing lent is written before it is known to be fine.
-pub fn judge(file: &[u8], n: usize, m: usize, limit: u32) -> Checked
-    requires { (n ≤ 32) × (m ≤ 252) × (512 * (word_blocks edition1 n + rule_blocks edition1 m) ≤ length file.now) }
-    ensures { result ≡ refusal_with limit (words_in file.now n) (rules_in file.now n m) }
+pub fn judge(file: &[u8], x: Problem) -> Result<(), Refusal>
+    requires { (x.words ≤ 32) × (x.rules ≤ 252) × (512 * (word_blocks edition1 x.words + rule_blocks edition1 x.rules) ≤ length file.now) }
+    ensures { result ≡ refusal_with x.limit (words_in file.now x.words) (rules_in file.now x.words x.rules) }
 {
-    let mut words = [0u64; 96];
-    let mut rules = [0u8; 1512];
-    store_words(file, &mut words, n);
-    store_rules(file, &mut rules, n, m);
-    let w = STRIDE * n;
-    let r = FIELDS * m;
-    checker::check(&words[..w], &rules[..r], limit)
+    let mut words = [0; 96];
+    let mut rules = [0; 1512];
+    store_words(file, &mut words, x.words);
+    store_rules(file, &mut rules, x.words, x.rules);
+    checker::check(
+        &words[..STRIDE * x.words],
+        &rules[..FIELDS * x.rules],
+        x.limit,
+    )
 }

@@ -5,7 +5,6 @@ use Prim.Native.Nat.{ℕ, ◌≤◌}
 use native.Mathlib.Omega.{arith}
 use lib.ListN.{length, take}
 use lib.Seq.{ext_get_or, get_or-take, length-take-le}
-use Rattle.checker.proofs.Firsts.{refused_not_ok}
 use Rattle.checker.proofs.Right.{ok_fine}
 use Rattle.words.specs.Table.{Table}
 use Rattle.rules.specs.Tight.{Rule}
@@ -14,9 +13,10 @@ use Rattle.search_theory.proofs.Outcomes.{found_not_none}
 use Rattle.cause_theory.specs.Cause.{EXISTS, Trims, spared, needed, exists, trimmed}
 use Rattle.cause_theory.proofs.One.{same}
 use Rattle.solve.specs.Promise.{Comes}
+use Rattle.std.specs.Prelude.{Ok}
 use Rattle.cause.specs.declared.Caused.{Caused}
 use Rattle.cause.specs.declared.Caused.TheVariants as caused
-use Rattle.cause.specs.Promise.{CauseGiven, Named, Entered, Causing, NoneFirst}
+use Rattle.cause.specs.Promise.{Named, Entered, Causing, NoneFirst}
 use Rattle.cause.proofs.Calling.{nothing_refused}
 use Rattle.report.specs.Text.{unsat, named, unnamed}
 use Rattle.report.specs.Printed.{Printed}
@@ -45,27 +45,21 @@ no_exists limit ws bs (exists s) comes = found_not_none (same s comes)
 no_exists limit ws bs (trimmed s r) comes = no_trim r
 
 module _ {limit : ℕ} {ws bs s k : List ℕ} where
-  cause_at : {g sum j : ℕ} {l l' s' n : List ℕ} {e : ℕ} → Causing limit ws bs s k (caused.Cause sum j) s' n → Comes limit ws bs (none g)
+  cause_at : {g sum j : ℕ} {l l' s' n : List ℕ} {e : ℕ} → Causing limit ws bs s k (Ok (caused.Cause sum j)) s' n → Comes limit ws bs (none g)
       → Printed (unsat g (named sum (take j s'))) l l' e → Told limit ws bs l k e l' n
   cause_at (Causing.caused_by given x size st c) comes p = told (none_named comes x) (rw (← size, entered_take st) at p) c
 
-  room_at : {sum j : ℕ} {s' n : List ℕ} → Causing limit ws bs s k (caused.Cause sum j) s' n → (j ≤ length s) × (length s' ≡ length s)
+  room_at : {sum j : ℕ} {s' n : List ℕ} → Causing limit ws bs s k (Ok (caused.Cause sum j)) s' n → (j ≤ length s) × (length s' ≡ length s)
   room_at (Causing.caused_by given x size st c) = (omega (arith, st.room, size), st.size)
 
-  unnamed_at : {g sum : ℕ} {l l' s' n : List ℕ} {e : ℕ} → Causing limit ws bs s k (caused.GaveUp sum) s' n → Comes limit ws bs (none g)
+  unnamed_at : {g sum : ℕ} {l l' s' n : List ℕ} {e : ℕ} → Causing limit ws bs s k (Ok (caused.GaveUp sum)) s' n → Comes limit ws bs (none g)
       → Printed (unsat g (unnamed sum)) l l' e → Told limit ws bs l k e l' n
   unnamed_at (Causing.gave_up_at given x c) comes p = told (none_unnamed comes x) p c
 
-  not_exists : {g h : ℕ} {s' n : List ℕ} → Causing limit ws bs s k (caused.Exists g) s' n → Comes limit ws bs (none h) → ⊥
+  not_exists : {g h : ℕ} {s' n : List ℕ} → Causing limit ws bs s k (Ok (caused.Exists g)) s' n → Comes limit ws bs (none h) → ⊥
   not_exists (Causing.exists_at given x c) comes = no_exists limit ws bs x comes
 
-  not_refused : {a b : ℕ} {s' n : List ℕ} → Causing limit ws bs s k (caused.Refused a b) s' n → CauseGiven limit ws bs s k → ⊥
-  not_refused (Causing.refused e) given = refused_not_ok e given.passed
-
-  module _ {r : Caused} {s' n : List ℕ} (x : Causing limit ws bs s k r s' n) where
-    pub cause_room : {sum j : ℕ} → length s ≡ 252 → r ≡ caused.Cause sum j → (j ≤ 252) × (j ≤ length s')
-    cause_room size q = let room = room_at (rw q at x) in (omega (arith, room.0), omega (arith, room.0, room.1))
-
+  module _ {r : Caused} {s' n : List ℕ} (x : Causing limit ws bs s k (Ok r) s' n) where
     pub cause_told : {g sum j : ℕ} {l l' : List ℕ} {e : ℕ} → r ≡ caused.Cause sum j → Comes limit ws bs (none g)
         → Printed (unsat g (named sum (take j s'))) l l' e → Told limit ws bs l k e l' n
     cause_told q comes p = cause_at (rw q at x) comes p
@@ -76,6 +70,3 @@ module _ {limit : ℕ} {ws bs s k : List ℕ} where
 
     pub never_exists : {g h : ℕ} → r ≡ caused.Exists g → Comes limit ws bs (none h) → ⊥
     never_exists q comes = not_exists (rw q at x) comes
-
-    pub never_refused : {a b : ℕ} → r ≡ caused.Refused a b → CauseGiven limit ws bs s k → ⊥
-    never_refused q given = not_refused (rw q at x) given

@@ -8,12 +8,13 @@ use Rattle.tighten.proofs.Once.{cleared_once}
 use Rattle.search_theory.proofs.Outcomes.{found_not_none, found_not_gave_up, none_not_gave_up}
 use Rattle.cause_theory.proofs.One.{one_cause}
 use Rattle.solve.proofs.Once.{comes_once}
-use Rattle.blocks.specs.declared.Reading.{Reading}
+use Rattle.std.specs.Prelude.{Result, Ok, Err}
+use Rattle.checker.specs.declared.refusal.Refusal.{Refusal}
+use Rattle.blocks.specs.declared.Problem.{Problem}
 use Rattle.blocks.specs.Promise.{Room, Reads}
 use Rattle.lists.proofs.Pieces.{length_zeros}
 use Rattle.blocks.proofs.ReadBack.{one_problem}
 use Rattle.blocks.proofs.Promise.{read_once}
-use Rattle.report.specs.declared.Advised.{Advised}
 use Rattle.report.specs.Text.{Report}
 use Rattle.report.specs.Promise.{ReportOf, found_first, none_named, none_unnamed, gave_up_at, no_words, no_rules, Reports, unread, answered, Advises}
 use Rattle.report.specs.Promise.{size, lines}
@@ -54,8 +55,8 @@ pub roomy : Room no_words no_rules
 roomy = record { words = omega (arith, length_zeros 96); rules = omega (arith, length_zeros 1512) }
 
 -- what is refused does not read
-apart : {n i : ℕ} {r : Reading} → r ≡ Reading.Refused n i → (x : _) → r ≡ Reading.Ok x → ⊥
-apart p x q = let z : ◌≡◌ {A = ℕ} 0 1 = cc in omega arith
+apart : {r : Refusal} {x : Result Problem Refusal} → x ≡ Err r → (y : Problem) → x ≡ Ok y → ⊥
+apart p y q = let z : ◌≡◌ {A = ℕ} 0 1 = cc in omega arith
 
 pub reports_once : {f : List ℕ} {x y : Report} → Reports f x → Reports f y → x ≡ y
 reports_once (unread r) (unread r') = let e = (read_once r r').0 in cc
@@ -66,7 +67,7 @@ reports_once (answered {limit = limit} {ws = ws} {bs = bs} is j a) (answered is'
     answers_once limit ws bs a (rw (l, w, b) a')
 
 module _ {f l k : List ℕ} where
-  pub advise_once : {r s : Advised} {a b m n : List ℕ} → Advises f l k r a m → Advises f l k s b n → (r ≡ s) × (a ≡ b) × (m ≡ n)
+  pub advise_once : {r s : Result ℕ Refusal} {a b m n : List ℕ} → Advises f l k r a m → Advises f l k s b n → (r ≡ s) × (a ≡ b) × (m ≡ n)
   advise_once (size h) (size h') = (refl, refl, refl)
   advise_once (size h) (lines g x p c) = absurd (h g)
   advise_once (lines g x p c) (size h) = absurd (h g)

@@ -1,15 +1,16 @@
 -- Lines put one after the other into lent bytes.
 use mathlib.Core.Path.{◌≡◌, refl, sym, ap, ◌∙◌, subst}
 use mathlib.Core.List.{List, [], ◌∷◌, ◌++◌, map, append_assoc, append-nil}
-use Prim.Native.Nat.{ℕ, ◌+◌, ◌≤◌, ◌<◌}
+use Prim.Native.Nat.{ℕ, ◌+◌, ◌*◌, ◌≤◌, ◌<◌}
 use native.Mathlib.Nat.{zero-add}
 use native.Mathlib.Numerals.{add-one}
 use native.Mathlib.Omega.{arith}
-use lib.ListN.{length, take, drop, set, get_or}
+use lib.ListN.{length, drop, get_or}
 use Rattle.decimal.specs.Text.{decimal, spaced}
-use Rattle.decimal.specs.Putting.{Appended}
+use Rattle.decimal.specs.Putting.{Appended, RoomFor}
 use Rattle.decimal.proofs.Appends.{appended_none, appended_both}
-use Rattle.decimal.proofs.Puts.{number_turn}
+use Rattle.decimal.proofs.Decimals.{decimal_below}
+use Rattle.decimal.proofs.Puts.{spaced_long, room_for_same}
 use Rattle.lists.specs.Lists.{flat}
 use Rattle.lists.proofs.Pieces.{flat_none, flat_more}
 use Rattle.report.specs.Text.{items, line, Report, text_of, binary, word_line}
@@ -27,14 +28,15 @@ pub line_put : {l p q m : List ℕ} {at a e r : ℕ} (name ns : List ℕ) → Ap
 unfolding line
 line_put name ns f g h = rw (spaced_items ns) at (appended_both f (appended_both g h))
 
--- one more entry of a list
-pub entry_turn : {l m n : List ℕ} {at e r : ℕ} (ns : List ℕ) (i x : ℕ) → Appended l at (spaced (take i ns)) m e → e < length m
-    → Appended (set m e 32) (e + 1) (decimal x) n r → x ≡ get_or ns i 0 → i < length ns → Appended l at (spaced (take (i + 1) ns)) n r
-entry_turn ns i x f room g q h = number_turn ns i f room (rw q at g) h
+-- numbers below 65,536, which have five digits at most
+entries_long : (ns : List ℕ) → ((i : ℕ) → get_or ns i 0 < 65536) → length (spaced ns) ≤ 6 * length ns
+entries_long ns h = spaced_long 5 ns (λ i. decimal_below 4 (get_or ns i 0) (omega (arith, h i)) (omega (arith, h i)))
 
-pub entries_end : {l m : List ℕ} {at e : ℕ} (ns : List ℕ) (i n : ℕ) → Appended l at (spaced (take i ns)) m e → i ≤ n → n ≤ i
-    → Appended l at (spaced (take n ns)) m e
-entries_end {l} {m} {at} {e} ns i n f p q = let z : i ≡ n = omega arith in subst (λ k. Appended l at (spaced (take k ns)) m e) z f
+pub entries_room : (l : List ℕ) (at : ℕ) (ns : List ℕ) → ((i : ℕ) → get_or ns i 0 < 65536) → at + 6 * length ns ≤ length l → RoomFor (λ x y. y ≡ x) l at ns
+entries_room l at ns h room = room_for_same l at ns (omega (arith, entries_long ns h))
+
+pub entries_end : {l m : List ℕ} {at e : ℕ} (ns : List ℕ) → ((i : ℕ) → get_or ns i 0 < 65536) → Appended l at (spaced ns) m e → e ≤ at + 6 * length ns
+entries_end ns h f = omega (arith, f.ends, entries_long ns h)
 
 pub spaced_one : (n : ℕ) → length (spaced (n ∷ [])) ≡ length (decimal n) + 1
 unfolding spaced

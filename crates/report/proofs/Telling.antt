@@ -1,5 +1,5 @@
 -- What the search of a problem comes to, as the report on it.
-use mathlib.Core.Path.{◌≡◌, ap, ◌∙◌}
+use mathlib.Core.Path.{◌≡◌, refl, ap, ◌∙◌}
 use mathlib.Core.List.{List, [], ◌∷◌, ◌++◌}
 use Prim.Native.Nat.{ℕ, ◌<◌}
 use native.Mathlib.Omega.{arith}
@@ -11,10 +11,11 @@ use Rattle.checker.proofs.Right.{ok_fine}
 use Rattle.lists.proofs.Series.{length_series, series_at}
 use Rattle.tighten.specs.Memory.{Cleared}
 use Rattle.search_theory.specs.Search.{none}
+use Rattle.std.specs.Prelude.{Result, Ok, IsOk}
+use Rattle.checker.specs.declared.refusal.Refusal.{Refusal}
 use Rattle.solve.specs.declared.Solved.{Solved}
 use Rattle.solve.specs.declared.Solved.TheVariants as solved
 use Rattle.solve.specs.Promise.{Comes, Solving}
-use Rattle.solve.specs.Promise as Solve
 use Rattle.solve.proofs.Calling.{nothing_refused}
 use Rattle.decimal.specs.Text.{decimal}
 use Rattle.lists.proofs.Pieces.{flat_same}
@@ -42,33 +43,35 @@ valued {limit} {ws} {bs} m size asked =
       there = omega (arith, f.sized.words);
     }
 
--- the memory cleared, a report is asked for and told as before
-pub asked_after : {limit : ℕ} {ws bs l k n : List ℕ} → ToReport limit ws bs l k → Cleared k n → ToReport limit ws bs l n
-asked_after a c = record { lent = record { bytes = a.lent.bytes; memory = omega (arith, a.lent.memory, c.size) }; fine = a.fine }
-
 pub told_after : {limit e : ℕ} {ws bs l k n l' n' : List ℕ} → Cleared k n → Told limit ws bs l n e l' n' → Told limit ws bs l k e l' n'
 told_after c (told a p d) = told a p (record { size = d.size ∙ c.size; zeros = d.zeros })
 
 -- ---- the search
 
 module _ {limit : ℕ} {ws bs m k : List ℕ} where
-  found_at : {g : ℕ} {l l' m' n : List ℕ} {e : ℕ} → Solving limit ws bs m k (solved.Found g) m' n → Printed (sat g (widths_of ws) m') l l' e
+  found_at : {g : ℕ} {l l' m' n : List ℕ} {e : ℕ} → Solving limit ws bs m k (Ok (solved.Found g)) m' n → Printed (sat g (widths_of ws) m') l l' e
       → Told limit ws bs l k e l' n
   found_at {g} {m' = m'} (Solving.found_first {v = v} given s st c) p =
       let same = sat_same g (widths_of ws) m' v (λ i h. st.each i (rw (length_series (word_count ws) (width_at ws)) at h)) in
       told (found_first s) (printed_same same p) c
 
-  none_at : {g : ℕ} {m' n : List ℕ} → Solving limit ws bs m k (solved.Nothing g) m' n → Comes limit ws bs (none g) × Cleared k n
+  none_at : {g : ℕ} {m' n : List ℕ} → Solving limit ws bs m k (Ok (solved.Nothing g)) m' n → Comes limit ws bs (none g) × Cleared k n
   none_at (Solving.found_none given s c) = (s, c)
 
-  gave_up_after : {g : ℕ} {l l' m' n : List ℕ} {e : ℕ} → Solving limit ws bs m k (solved.GaveUp g) m' n → Printed (unknown g) l l' e
+  gave_up_after : {g : ℕ} {l l' m' n : List ℕ} {e : ℕ} → Solving limit ws bs m k (Ok (solved.GaveUp g)) m' n → Printed (unknown g) l l' e
       → Told limit ws bs l k e l' n
   gave_up_after (Solving.gave_up_at given s c) p = told (gave_up_at s) p c
 
-  not_refused : {a b : ℕ} {m' n : List ℕ} → Solving limit ws bs m k (solved.Refused a b) m' n → Solve.SolveGiven limit ws bs m k → ⊥
-  not_refused (Solving.refused e) given = refused_not_ok e given.passed
+  -- a problem without refusals is not refused
+  pub solve_ok : {x : Result Solved Refusal} {l m' n : List ℕ} → Solving limit ws bs m k x m' n → ToReport limit ws bs l k → length m ≡ 32 → IsOk x
+  solve_ok (Solving.refused e) asked size =
+      let work = asked.lent.memory in
+      absurd (refused_not_ok e (nothing_refused limit ws bs m k (omega arith) (valued m size asked).there asked.fine).passed)
+  solve_ok (Solving.found_first given s st c) asked size = refl
+  solve_ok (Solving.found_none given s c) asked size = refl
+  solve_ok (Solving.gave_up_at given s c) asked size = refl
 
-  module _ {r : Solved} {m' n : List ℕ} (s : Solving limit ws bs m k r m' n) where
+  module _ {r : Solved} {m' n : List ℕ} (s : Solving limit ws bs m k (Ok r) m' n) where
     pub found_told : {g : ℕ} {l l' : List ℕ} {e : ℕ} → r ≡ solved.Found g → Printed (sat g (widths_of ws) m') l l' e → Told limit ws bs l k e l' n
     found_told q p = found_at (rw q at s) p
 
@@ -77,8 +80,3 @@ module _ {limit : ℕ} {ws bs m k : List ℕ} where
 
     pub gave_up_told : {g : ℕ} {l l' : List ℕ} {e : ℕ} → r ≡ solved.GaveUp g → Printed (unknown g) l l' e → Told limit ws bs l k e l' n
     gave_up_told q p = gave_up_after (rw q at s) p
-
-    pub never_refused : {a b : ℕ} {l : List ℕ} → r ≡ solved.Refused a b → ToReport limit ws bs l k → length m ≡ 32 → ⊥
-    never_refused q asked size =
-        let work = asked.lent.memory in
-        not_refused (rw q at s) (nothing_refused limit ws bs m k (omega arith) (valued m size asked).there asked.fine)

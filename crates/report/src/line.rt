@@ -1,6 +1,6 @@
-// One line of the report, and what stands on it: a value in binary, entries of a list, a name and numbers.
-ghost use Rattle.std.specs.Prelude.{◌≡◌, map, ◌+◌, ◌*◌, ◌≤◌, ◌<◌, ◌-◌, length, take};
-ghost use Rattle.decimal.specs.Text.{decimal, spaced};
+// One line of the report, and what stands on it: a value in binary, a name and numbers.
+ghost use Rattle.std.specs.Prelude.{map, ◌+◌, ◌*◌, ◌≤◌, ◌<◌, length};
+ghost use Rattle.decimal.specs.Text.{decimal};
 ghost use Rattle.decimal.specs.Putting.{Appended};
 ghost use Rattle.report.specs.Text.{line, binary, word_line};
 
@@ -9,33 +9,10 @@ pub fn put_binary(out: &mut [u8], at: usize, width: usize, value: u64) -> usize
     requires { (width ≤ 64) × (at + width ≤ length out.old) }
     ensures { Appended out.old at (binary width value) out.new result }
 {
-    let mut i = 0;
-    while i < width {
-        out[at + i] = 48 + ((value >> (width - 1 - i)) % 2) as u8;
-        i += 1;
+    for (i, digit) in out[at..at + width].iter_mut().enumerate() {
+        *digit = b'0' + ((value >> (width - 1 - i)) % 2) as u8;
     }
-    at + i
-}
-
-// The first n numbers of a list, each after a blank: where they end.
-pub fn put_entries(out: &mut [u8], at: usize, list: &[u16], n: usize) -> usize
-    requires { (n ≤ length list.now) × (at + 6 * n ≤ length out.old) }
-    ensures { Appended out.old at (spaced (take n list.now)) out.new result × (result ≤ at + 6 * n) }
-{
-    let mut i = 0;
-    let mut e = at;
-    while i < n {
-        out[e] = decimal::BLANK;
-        e = decimal::number::put(out, e + 1, wide(list[i]));
-        i += 1;
-    }
-    e
-}
-
-fn wide(x: u16) -> u64
-    ensures { (result ≡ x) × (result < 65536) }
-{
-    x as u64
+    at + width
 }
 
 // A name and numbers, parted by blanks, and the line's end: where it ends.

@@ -1,12 +1,12 @@
 // The report of each answer, put into lent bytes as lines. 2,304 bytes always do: 32 lines of at most 71 bytes and a first one of at most 25, or two lines
 // with at most 252 rule numbers of at most 6 bytes each.
-ghost use Rattle.std.specs.Prelude.{◌+◌, ◌*◌, ◌≤◌, length, take};
+ghost use Rattle.std.specs.Prelude.{◌+◌, ◌*◌, ◌≤◌, length};
 ghost use Rattle.problem.specs.Lent.{word_count, widths_of};
 ghost use Rattle.decimal.specs.Putting.{Appended};
 ghost use Rattle.report.specs.Text.{word_lines, cause_line, named, unnamed, sat, unsat, unknown, refused};
 ghost use Rattle.report.specs.Printed.{most, Printed, Valued};
 
-use crate::line::{put_entries, put_line, put_word};
+use crate::line::{put_line, put_word};
 use problem::STRIDE;
 
 // A line per word, from `at` on: where they end.
@@ -14,24 +14,21 @@ fn put_words(out: &mut [u8], at: usize, words: &[u64], model: &[u64]) -> usize
     requires { Valued words.now model.now × (at + 71 * word_count words.now ≤ length out.old) }
     ensures { Appended out.old at (word_lines (widths_of words.now) model.now) out.new result }
 {
-    let n = words.len() / STRIDE;
-    let mut i = 0;
     let mut e = at;
-    while i < n {
+    for i in 0..words.len() / STRIDE {
         e = put_word(out, e, i as u64, words[STRIDE * i], model[i]);
-        i += 1;
     }
     e
 }
 
-// The line of a cause, the first n entries of a list: where it ends.
-fn put_cause(out: &mut [u8], at: usize, sum: u64, list: &[u16], n: usize) -> usize
-    requires { (n ≤ length list.now) × (at + 6 * n + 27 ≤ length out.old) }
-    ensures { Appended out.old at (cause_line (named sum (take n list.now))) out.new result }
+// The line of a cause, whose rules are listed: where it ends.
+fn put_cause(out: &mut [u8], at: usize, sum: u64, list: &[u16]) -> usize
+    requires { at + 6 * length list.now + 27 ≤ length out.old }
+    ensures { Appended out.old at (cause_line (named sum list.now)) out.new result }
 {
     let a = decimal::put_bytes(out, at, b"cause");
     let b = decimal::number::put_all(out, a, &[sum]);
-    let e = put_entries(out, b, list, n);
+    let e = decimal::number::put_all(out, b, list);
     decimal::put_bytes(out, e, b"\n")
 }
 
@@ -44,13 +41,13 @@ pub fn put_sat(out: &mut [u8], count: u64, words: &[u64], model: &[u64]) -> usiz
     put_words(out, e, words, model)
 }
 
-// NONE with its cause, the first n entries of a list.
-pub fn put_unsat(out: &mut [u8], count: u64, sum: u64, list: &[u16], n: usize) -> usize
-    requires { (n ≤ 252) × (n ≤ length list.now) × (most ≤ length out.old) }
-    ensures { Printed (unsat count (named sum (take n list.now))) out.old out.new result }
+// NONE with its cause, whose rules are listed.
+pub fn put_unsat(out: &mut [u8], count: u64, sum: u64, list: &[u16]) -> usize
+    requires { (length list.now ≤ 252) × (most ≤ length out.old) }
+    ensures { Printed (unsat count (named sum list.now)) out.old out.new result }
 {
     let e = put_line(out, 0, b"unsat", &[count]);
-    put_cause(out, e, sum, list, n)
+    put_cause(out, e, sum, list)
 }
 
 // NONE where a search for the cause gave up.

@@ -3,25 +3,31 @@ use mathlib.Core.Path.{◌≡◌, sym, ap, ◌∙◌}
 use mathlib.Core.Logic.{◌≢◌, inr}
 use mathlib.Core.List.{List}
 use Prim.Native.Nat.{ℕ, ◌+◌, ◌^◌, ◌≤◌, ◌<◌, ◌-◌}
-use native.Mathlib.Nat.{zero-add}
+use native.Mathlib.Nat.{zero-add, add_comm}
 use native.Mathlib.Omega.{arith}
 use native.Mathlib.Decide.{dec_lt}
 use lib.Bits.{bit_xor}
-use lib.ListN.{length, take, drop, set, length-set}
-use lib.Seq.{take-set-le, drop-set-lt, get_or-set_other}
+use borrow.Author.Tests.{ltb-true, ltb-false, not-true, not-false}
+use Rattle.std.proofs.Common.{Option, None, Some, Bool, true, false, not, cond, nat_lt, get_or, refl, ap₂}
+use Rattle.std.specs.List.{position, position_or_len, zip}
+use Rattle.std.proofs.lemmas.List.Sums.{prefix_len_passes, prefix_len_stops}
+use Rattle.std.proofs.lemmas.Slice.Zip.{get_or-zip, length-zip}
+use lib.ListN.{length, take, drop, set, length-set, length-take, length-drop}
+use lib.Seq.{get_or-take, get_or-drop, take-set-le, drop-set-lt, get_or-set_other}
 use Rattle.words.specs.Bits.{bit}
-use Rattle.words.specs.Word.{top_open}
+use Rattle.words.specs.Word.{open_in, top_open}
 use Rattle.words.specs.Table.{Inside, Open, Guess, Done, with0, with1}
 use Rattle.lists.specs.Lists.{at}
 use Rattle.words.proofs.Order.{⊑_le, bit_of_zero, bits_ext}
 use Rattle.words.proofs.Ops.{bit_xor_lem}
 use Rattle.words.proofs.Tables.{in_reach, table_path}
+use Rattle.words.proofs.Falls.{none_open, open_none}
 use Rattle.words.proofs.Single.{top_open_lem}
 use Rattle.tighten.specs.Memory.{table_in}
 use Rattle.lists.proofs.Sets.{take_set_lt, drop_set_add}
 use Rattle.tighten.proofs.Memory.{low_at, high_at, highs}
 use Rattle.trail.specs.Trail.{copied, Moved}
-use Rattle.search.specs.Guessing.{copy_in, top_at, zero_at, one_at, Lowest, Fixable, zero_fixed, one_fixed, Copied, Second}
+use Rattle.search.specs.Guessing.{copy_in, top_at, zero_at, one_at, LowestAt, Lowest, Fixable, zero_fixed, one_fixed, Copied, Second}
 use Rattle.search.proofs.Tables.{table_as, copy_low, copy_high, copy_lows, copy_highs}
 
 -- numbers that differ have a bit that differs
@@ -78,38 +84,81 @@ module _ (n : ℕ) (l : List ℕ) (i : ℕ) (below : i < n) (most : n ≤ 32) wh
 
 -- ---- the word
 
-module _ {n : ℕ} {l : List ℕ} {r : ℕ} (x : Lowest n l r) (most : n ≤ 32) (room : 64 ≤ length l)
-    (whole : Inside (table_in n l) (table_in n l)) (short : (i : ℕ) → at (table_in n l).hi i < 2 ^ 64) where
-  -- a word below r has no open bit
-  shut : (i b : ℕ) → i < r → ¬ Open (table_in n l) i b
-  shut i b h o =
-      let k : i < n = omega (arith, x.most) in
-      let same : at (table_in n l).lo i ≡ at (table_in n l).hi i = low_at n l i k ∙ x.same i h ∙ sym (high_at n l i k) in
+-- the bounds of the words, side by side, and whether two leave a bit open
+module _ (n : ℕ) (l : List ℕ) (most : n ≤ 32) (room : 64 ≤ length l) where
+  sides : List (ℕ × ℕ)
+  sides = zip (take n (take 32 l)) (drop 32 l)
+
+  gap : ℕ × ℕ → Bool
+  gap x = nat_lt 0 (open_in x.0 x.1)
+
+  size : length sides ≡ n
+  unfolding sides
+  size = length-zip (take n (take 32 l)) (drop 32 l) ∙ simp (length-take, length-drop) (omega arith)
+
+  side : (i : ℕ) → i < n → get_or sides i (0, 0) ≡ (at l i, at l (i + 32))
+  unfolding sides
+  side i h =
+      get_or-zip (take n (take 32 l)) (drop 32 l) i (0, 0) (simp length-take (omega arith)) (simp length-drop (omega arith))
+      ∙ ap₂ (λ x y. (x, y)) (get_or-take n (take 32 l) i 0 h ∙ get_or-take 32 l i 0 (omega arith)) (get_or-drop 32 l i 0 ∙ ap (at l) (add_comm 32 i))
+
+  -- up to the first place with an open bit
+  first : ℕ
+  first = position_or_len gap sides
+
+  shut_before : (i : ℕ) → i < first → i < n → at l i ≡ at l (i + 32)
+  unfolding first gap
+  shut_before i h k =
+      let e = rw (side i k) at (prefix_len_passes (λ x. not (gap x)) sides i (0, 0) h) in
+      open_none _ _ (omega (arith, ltb-false _ _ (not-true _ e)))
+
+  open_here : first < n → at l first ≢ at l (first + 32)
+  unfolding first gap
+  open_here h same =
+      let e = rw (side first h) at (prefix_len_stops (λ x. not (gap x)) sides (0, 0) (rw size h)) in
+      omega (arith, ltb-true _ _ (not-false _ e), none_open _ _ same)
+
+  pub lowest_first : {r : Option ℕ} → r ≡ position (λ x. nat_lt 0 (open_in x.0 x.1)) (zip (take n (take 32 l)) (drop 32 l)) → Lowest n l r
+  unfolding first gap sides
+  lowest_first e = rw e (go (nat_lt first (length sides)) refl)
+    where
+      go : (b : Bool) → nat_lt first (length sides) ≡ b → Lowest n l (cond b (Some first) None)
+      go true f =
+          let h : first < n = omega (arith, ltb-true _ _ f, size) in
+          record { below = h; same = λ i k. shut_before i k (omega arith); differs = open_here h }
+      go false f = λ i h. shut_before i (omega (arith, ltb-false _ _ f, size)) h
+
+module _ {n : ℕ} (l : List ℕ) (most : n ≤ 32) (room : 64 ≤ length l) where
+  -- a word whose bounds are the same has no open bit
+  shut : (i b : ℕ) → i < n → at l i ≡ at l (i + 32) → ¬ Open (table_in n l) i b
+  shut i b k e o =
+      let same : at (table_in n l).lo i ≡ at (table_in n l).hi i = low_at n l i k ∙ e ∙ sym (high_at n l i k) in
       omega (arith, o.off, o.on, ap (λ (y : ℕ). bit y b) same)
 
-  pub lowest_done : r ≡ n → Done (table_in n l)
-  lowest_done e i b o = shut i b (omega (arith, in_reach (table_in n l).hi i b o.on, highs n l most room)) o
+  pub lowest_done : Lowest n l None → Done (table_in n l)
+  lowest_done same i b o = let k : i < n = omega (arith, in_reach (table_in n l).hi i b o.on, highs n l most room) in shut i b k (same i k) o
 
-  pub lowest_fixable : r < n → Fixable l r
-  lowest_fixable h = record {
-    word = omega arith;
-    room = room;
-    under = rw (low_at n l r h, high_at n l r h) at (whole.mid r);
-    short = rw (high_at n l r h) at (short r);
-    differs = x.differs h;
-  }
+  module _ {r : ℕ} (x : LowestAt n l r) (whole : Inside (table_in n l) (table_in n l)) (short : (i : ℕ) → at (table_in n l).hi i < 2 ^ 64) where
+    pub lowest_fixable : Fixable l r
+    lowest_fixable = record {
+      word = omega (arith, x.below);
+      room = room;
+      under = rw (low_at n l r x.below, high_at n l r x.below) at (whole.mid r);
+      short = rw (high_at n l r x.below) at (short r);
+      differs = x.differs;
+    }
 
-  pub lowest_guess : r < n → Guess (table_in n l) r (top_at (table_in n l) r)
-  lowest_guess h =
-      let f = lowest_fixable h in
-      let lo = low_at n l r h in
-      let hi = high_at n l r h in
-      let (off, on, above) = top_open_lem (at l r) (at l (r + 32)) f.under f.short (lo_short l r f) (some_open l r f) in
-      rw (bit_at n l r h most) (record {
-        here = record { off = rw lo off; on = rw hi on };
-        lowest = λ k b g. shut k b g;
-        highest = λ b g o. omega (arith, above b g, o.off, o.on, ap (λ (y : ℕ). bit y b) lo, ap (λ (y : ℕ). bit y b) hi);
-      })
+    pub lowest_guess : Guess (table_in n l) r (top_at (table_in n l) r)
+    lowest_guess =
+        let f = lowest_fixable in
+        let lo = low_at n l r x.below in
+        let hi = high_at n l r x.below in
+        let (off, on, above) = top_open_lem (at l r) (at l (r + 32)) f.under f.short (lo_short l r f) (some_open l r f) in
+        rw (bit_at n l r x.below most) (record {
+          here = record { off = rw lo off; on = rw hi on };
+          lowest = λ k b g. shut k b (omega (arith, x.below)) (x.same k g);
+          highest = λ b g o. omega (arith, above b g, o.off, o.on, ap (λ (y : ℕ). bit y b) lo, ap (λ (y : ℕ). bit y b) hi);
+        })
 
 -- ---- the second value
 

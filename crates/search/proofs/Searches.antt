@@ -1,4 +1,5 @@
 -- The two values of a guess, put together: what each search asks, that the open bits fall, and what comes of both.
+use Rattle.checker.specs.Promise.{Fine}
 use mathlib.Core.Path.{◌≡◌, refl, sym, ap, subst, ◌∙◌}
 use mathlib.Core.Logic.{◌≢◌}
 use mathlib.Core.List.{List}
@@ -18,7 +19,7 @@ use Rattle.rules.proofs.Propers.{proper_inside, proper_narrower}
 use Rattle.problem.specs.Lent.{word_count, widths_of, rules_of}
 use Rattle.tighten.specs.Memory.{table_in}
 use Rattle.trail.specs.Trail.{RolledBack}
-use Rattle.search_theory.specs.Search.{found, none, Search, first, second, ends_found, ends_gave_up, answer_none}
+use Rattle.search_theory.specs.Search.{none, Search, Ends, first, second, ends_found, ends_gave_up, answer_none}
 use Rattle.search_theory.proofs.Falls.{search_falls}
 use Rattle.search_theory.proofs.Limit.{count_limit}
 use Rattle.search_theory.proofs.Solved.{proper_short}
@@ -29,15 +30,21 @@ use Rattle.search.specs.Searching.{outcome_of, TightIn, Frame, Begun, Searched, 
 use Rattle.search.proofs.Tables.{copy_highs}
 use Rattle.search.proofs.Frames.{frame_trans, frame_behind, chosen_kept, listed_kept, frame_copy, frame_back, table_back}
 
-module _ {ws bs l : List ℕ} {c b used limit i e : ℕ} {m : List ℕ} (begun : Begun ws bs l c b used limit) (g : Guessed ws bs c limit l b used i e m) where
+-- the values of a guess at memory l's table were searched, from memory m to v with e entries on the trail, and the answer is a
+pub record Valued (ws bs l : List ℕ) (c limit used : ℕ) (m : List ℕ) (e : ℕ) (a : Answer) (v : List ℕ) : Type 0 where
+  pub search : Search (TightIn ws bs l c) limit (table_in (word_count ws) l) used (outcome_of a (table_in (word_count ws) v).lo)
+  pub frame : Frame e m v
+
+module _ {ws bs l : List ℕ} {c b used limit i e : ℕ} {m : List ℕ} (fine : Fine 0 ws bs) (begun : Begun ws bs l c b used limit)
+    (g : Guessed ws bs c limit l b used i e m) where
   most : word_count ws ≤ 32
-  most = begun.ready.sized.words
+  most = fine.sized.words
 
   room : 380 ≤ length m
   room = omega (arith, g.room)
 
   proper : Proper (widths_of ws) (copy_in (word_count ws) m)
-  proper = proper_narrower begun.ready.table g.widest.inside
+  proper = proper_narrower begun.tabled.table g.widest.inside
 
   whole : Inside (copy_in (word_count ws) m) (copy_in (word_count ws) m)
   whole = self g.widest.inside
@@ -53,7 +60,7 @@ module _ {ws bs l : List ℕ} {c b used limit i e : ℕ} {m : List ℕ} (begun :
 
   falls : (open_below (word_count ws) (zero_at (copy_in (word_count ws) m) i) < open_below (word_count ws) (table_in (word_count ws) l))
       × (open_below (word_count ws) (one_at (copy_in (word_count ws) m) i) < open_below (word_count ws) (table_in (word_count ws) l))
-  falls = search_falls g.widest g.guess (word_count ws) reach (proper_inside begun.ready.table)
+  falls = search_falls g.widest g.guess (word_count ws) reach (proper_inside begun.tabled.table)
 
   -- the list stays in every memory x framed by m
   list_in : {x : List ℕ} → Frame e m x → (q : ℕ) → 64 ≤ q → q < 316 → at x q ≡ at l q
@@ -69,12 +76,7 @@ module _ {ws bs l : List ℕ} {c b used limit i e : ℕ} {m : List ℕ} (begun :
   begun_in : {x : List ℕ} (t : Table) (k : ℕ) → Frame e m x → table_in (word_count ws) x ≡ t → Inside t (copy_in (word_count ws) m) → k ≤ limit
       → Begun ws bs x c e k limit
   begun_in {x} t k f here inside within = record {
-    ready = record {
-      sized = begun.ready.sized;
-      problem = begun.ready.problem;
-      room = omega (arith, room, f.size);
-      table = rw here (proper_narrower proper inside);
-    };
+    tabled = record { room = omega (arith, room, f.size); table = rw here (proper_narrower proper inside) };
     listed = listed_kept l x c begun.few (list_in f) bs (f.size ∙ g.size) begun.listed;
     few = begun.few;
     copy = rw (here, copy_in_lem f) inside;
@@ -101,23 +103,14 @@ module _ {ws bs l : List ℕ} {c b used limit i e : ℕ} {m : List ℕ} (begun :
         subst (λ (T : Table → Type 0). Search T limit (zero_at (copy_in (word_count ws) m) i) (suc used) (outcome_of r (table_in (word_count ws) x).lo))
         (tight_in itself) (rw (g.table, add-one used) at s.search)
 
-    module _ {y : List ℕ} (back : RolledBack b e x y) where
-      values : (table_in (word_count ws) x).lo ≡ (table_in (word_count ws) y).lo
-      values = ap (λ t. t.lo) (sym (table_back (word_count ws) most (omega (arith, room, s.frame.size)) back))
-
-      frame : Frame b l y
-      frame = frame_back g.entries g.size g.list g.trail g.back s.frame back
-
-      pub first_found : (k : ℕ) → r ≡ Found k → Searched ws bs c limit l b used (Found k) y
-      first_found k q = record {
-        search = first g.widest g.guess g.allowed
-            (subst (λ v. Search (TightIn ws bs l c) limit (zero_at (copy_in (word_count ws) m) i) (suc used) (found v k)) values
-            (rw q at first_search)) ends_found;
-        frame = frame;
-      }
-
-      pub first_gave_up : r ≡ GaveUp → Searched ws bs c limit l b used GaveUp y
-      first_gave_up q = record { search = first g.widest g.guess g.allowed (rw q at first_search) ends_gave_up; frame = frame }
+    -- the answer, where the second value is not searched
+    pub first_valued : ((k : ℕ) → r ≡ Nothing k → ⊥) → Valued ws bs l c limit used m e r x
+    first_valued some = record { search = first g.widest g.guess g.allowed first_search (go r some); frame = s.frame }
+      where
+        go : (a : Answer) → ((k : ℕ) → a ≡ Nothing k → ⊥) → Ends (outcome_of a (table_in (word_count ws) x).lo)
+        go (Found k) q = ends_found
+        go (Nothing k) q = absurd (q k refl)
+        go GaveUp q = ends_gave_up
 
     -- ---- the second value
 
@@ -135,30 +128,37 @@ module _ {ws bs l : List ℕ} {c b used limit i e : ℕ} {m : List ℕ} (begun :
           differs = rw q apart;
         }
 
-    module _ {k : ℕ} (nothing : r ≡ Nothing k) {z : List ℕ} (fixed : Second (word_count ws) x i z) where
-      frame_second : Frame e m z
-      frame_second = frame_trans s.frame (frame_behind e x z fixed.size fixed.rest)
+  module _ {k : ℕ} {x : List ℕ} (s : Searched ws bs c limit m e (used + 1) (Nothing k) x) {z : List ℕ} (fixed : Second (word_count ws) x i z) where
+    frame_second : Frame e m z
+    frame_second = frame_trans s.frame (frame_behind e x z fixed.size fixed.rest)
 
-      table_second : table_in (word_count ws) z ≡ one_at (copy_in (word_count ws) m) i
-      table_second = fixed.table ∙ ap (λ t. one_at t i) (copy_in_lem s.frame)
+    table_second : table_in (word_count ws) z ≡ one_at (copy_in (word_count ws) m) i
+    table_second = fixed.table ∙ ap (λ t. one_at t i) (copy_in_lem s.frame)
 
-      first_none : Search (TightIn ws bs l c) limit (zero_at (copy_in (word_count ws) m) i) (suc used) (none k)
-      first_none = rw nothing at first_search
+    first_none : Search (TightIn ws bs l c) limit (zero_at (copy_in (word_count ws) m) i) (suc used) (none k)
+    first_none = first_search s
 
-      pub second_begun : Begun ws bs z c e k limit
-      second_begun = begun_in _ k frame_second table_second in1 (count_limit first_none answer_none g.allowed)
+    pub second_begun : Begun ws bs z c e k limit
+    second_begun = begun_in _ k frame_second table_second in1 (count_limit first_none answer_none g.allowed)
 
-      pub second_falls : open_below (word_count ws) (table_in (word_count ws) z) < open_below (word_count ws) (table_in (word_count ws) l)
-      second_falls = rw table_second falls.1
+    pub second_falls : open_below (word_count ws) (table_in (word_count ws) z) < open_below (word_count ws) (table_in (word_count ws) l)
+    second_falls = rw table_second falls.1
 
-      pub second_end : {a : Answer} {v y : List ℕ} → Searched ws bs c limit z e k a v → RolledBack b e v y → Searched ws bs c limit l b used a y
-      second_end {a} {v} {y} t back = record {
-        search = second g.widest g.guess g.allowed first_none
-            (subst (λ w. Search (TightIn ws bs l c) limit (one_at (copy_in (word_count ws) m) i) k (outcome_of a w)) stays
-            (subst (λ (T : Table → Type 0). Search T limit (one_at (copy_in (word_count ws) m) i) k (outcome_of a (table_in (word_count ws) v).lo))
-            (tight_in frame_second) (rw table_second at t.search)));
-        frame = frame_back g.entries g.size g.list g.trail g.back (frame_trans frame_second t.frame) back;
-      }
-        where
-          stays : (table_in (word_count ws) v).lo ≡ (table_in (word_count ws) y).lo
-          stays = ap (λ s. s.lo) (sym (table_back (word_count ws) most (omega (arith, room, frame_second.size, t.frame.size)) back))
+    pub second_valued : {a : Answer} {v : List ℕ} → Searched ws bs c limit z e k a v → Valued ws bs l c limit used m e a v
+    second_valued {a} {v} t = record {
+      search = second g.widest g.guess g.allowed first_none
+          (subst (λ (T : Table → Type 0). Search T limit (one_at (copy_in (word_count ws) m) i) k (outcome_of a (table_in (word_count ws) v).lo))
+          (tight_in frame_second) (rw table_second at t.search));
+      frame = frame_trans frame_second t.frame;
+    }
+
+  -- ---- the entries taken back
+
+  pub valued_end : {a : Answer} {v y : List ℕ} → Valued ws bs l c limit used m e a v → RolledBack b e v y → Searched ws bs c limit l b used a y
+  valued_end {a} {v} {y} x back = record {
+    search = subst (λ w. Search (TightIn ws bs l c) limit (table_in (word_count ws) l) used (outcome_of a w)) values x.search;
+    frame = frame_back g.entries g.size g.list g.trail g.back x.frame back;
+  }
+    where
+      values : (table_in (word_count ws) v).lo ≡ (table_in (word_count ws) y).lo
+      values = ap (λ t. t.lo) (sym (table_back (word_count ws) most (omega (arith, room, x.frame.size)) back))

@@ -1,4 +1,5 @@
 -- The search of a problem's own table: the table loaded, the copy made of it, and room on the trail for all its open bits.
+use Rattle.checker.specs.Promise.{Fine}
 use mathlib.Core.Path.{◌≡◌, sym, ap, subst, ◌∙◌}
 use mathlib.Core.Logic.{inl}
 use mathlib.Core.List.{List}
@@ -30,9 +31,10 @@ unfolding bits_below
 few_bits w most zero = omega arith
 few_bits w most (suc m) = omega (arith, few_bits w most m, most m)
 
-module _ {ws bs l : List ℕ} {c : ℕ} (asked : ToSearch ws bs l c) {k m : List ℕ} (x : Loaded (word_count ws) ws l k) (y : Moved (word_count ws) 0 316 k m) where
+module _ {ws bs l : List ℕ} {c : ℕ} (fine : Fine 0 ws bs) (asked : ToSearch bs l c)
+    {k m : List ℕ} (x : Loaded (word_count ws) ws l k) (y : Moved (word_count ws) 0 316 k m) where
   few : word_count ws ≤ 32
-  few = asked.sized.words
+  few = fine.sized.words
 
   room : 4476 ≤ length m
   room = omega (arith, asked.room, x.size, y.size)
@@ -46,30 +48,30 @@ module _ {ws bs l : List ℕ} {c : ℕ} (asked : ToSearch ws bs l c) {k m : List
   table_there : table_in (word_count ws) m ≡ table_of ws
   table_there =
       table_as (word_count ws) m (table_of ws) few (omega (arith, room)) los his
-      (λ i h. y.rest i (inl (omega arith)) ∙ x.low i h ∙ sym (lo_at_lem ws asked.sized.whole_words i))
-      (λ i h. y.rest (i + 32) (inl (omega arith)) ∙ x.high i h ∙ sym (hi_at_lem ws asked.sized.whole_words i))
+      (λ i h. y.rest i (inl (omega arith)) ∙ x.low i h ∙ sym (lo_at_lem ws fine.sized.whole_words i))
+      (λ i h. y.rest (i + 32) (inl (omega arith)) ∙ x.high i h ∙ sym (hi_at_lem ws fine.sized.whole_words i))
 
   copy_there : copy_in (word_count ws) m ≡ table_of ws
   copy_there =
       copy_as (word_count ws) m few (omega (arith, room)) (table_of ws) los his (λ i h. low i h) (λ i h. high i h)
     where
       low : (i : ℕ) → i < word_count ws → copied m i ≡ at (table_of ws).lo i
-      low i h = y.low i h ∙ ap (at k) (zero-add i) ∙ x.low i h ∙ sym (lo_at_lem ws asked.sized.whole_words i)
+      low i h = y.low i h ∙ ap (at k) (zero-add i) ∙ x.low i h ∙ sym (lo_at_lem ws fine.sized.whole_words i)
 
       high : (i : ℕ) → i < word_count ws → copied m (i + 32) ≡ at (table_of ws).hi i
       high i h =
           let e : 316 + (i + 32) ≡ 316 + 32 + i = omega arith in
           let f : 0 + 32 + i ≡ i + 32 = omega arith in
-          ap (at m) e ∙ y.high i h ∙ ap (at k) f ∙ x.high i h ∙ sym (hi_at_lem ws asked.sized.whole_words i)
+          ap (at m) e ∙ y.high i h ∙ ap (at k) f ∙ x.high i h ∙ sym (hi_at_lem ws fine.sized.whole_words i)
 
   list : (q : ℕ) → 64 ≤ q → q < 316 → at m q ≡ at l q
   list q h g = y.rest q (inl g) ∙ x.rest q h
 
   pub problem_begun : (limit : ℕ) → Begun ws bs m c 0 0 limit
   problem_begun limit =
-      let proper = asked.problem.table in
+      let proper = fine.problem.table in
       record {
-        ready = record { sized = asked.sized; problem = asked.problem; room = omega (arith, room); table = rw table_there proper };
+        tabled = record { room = omega (arith, room); table = rw table_there proper };
         listed = listed_kept l m c asked.few list bs (y.size ∙ x.size) asked.listed;
         few = asked.few;
         copy = rw (table_there, copy_there) (proper_inside proper);

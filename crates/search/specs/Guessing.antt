@@ -1,5 +1,5 @@
 -- Mirrors code: the guess in lent memory: the word that it falls on, and its highest open bit fixed 0 or 1.
-use Rattle.std.specs.Prelude.{◌≡◌, ◌≢◌, List, ℕ, ◌+◌, ◌^◌, ◌≤◌, ◌<◌, ◌-◌, length, drop, set}
+use Rattle.std.specs.Prelude.{◌≡◌, ◌≢◌, List, ℕ, ◌+◌, ◌^◌, ◌≤◌, ◌<◌, ◌-◌, length, drop, set, Option, None, Some}
 use Rattle.words.specs.Bits.{◌⊑◌}
 use Rattle.words.specs.Word.{top_open}
 use Rattle.words.specs.Table.{Table, with0, with1}
@@ -21,11 +21,16 @@ zero_at t i = with0 t i (top_at t i)
 abbrev pub one_at : Table → ℕ → Table
 one_at t i = with1 t i (top_at t i)
 
--- r is the lowest-numbered of the n words whose bounds differ, or n
-pub record Lowest (n : ℕ) (l : List ℕ) (r : ℕ) : Type 0 where
-  pub most : r ≤ n
+-- word r is the lowest-numbered of the n words whose bounds differ
+pub record LowestAt (n : ℕ) (l : List ℕ) (r : ℕ) : Type 0 where
+  pub below : r < n
   pub same : (i : ℕ) → i < r → at l i ≡ at l (i + 32)
-  pub differs : r < n → at l r ≢ at l (r + 32)
+  pub differs : at l r ≢ at l (r + 32)
+
+-- r is that word, or the bounds of none differ
+abbrev pub Lowest : ℕ → List ℕ → Option ℕ → Type 0
+Lowest n l None = (i : ℕ) → i < n → at l i ≡ at l (i + 32)
+Lowest n l (Some r) = LowestAt n l r
 
 -- word i of the table has bounds of 64 bits that differ
 pub record Fixable (l : List ℕ) (i : ℕ) : Type 0 where

@@ -1,5 +1,7 @@
 -- Mirrors code: what the search asks of lent memory, and what it leaves there.
 use Rattle.std.specs.Prelude.{◌≡◌, List, ℕ, ◌+◌, ◌*◌, ◌≤◌, ◌<◌, ◌-◌, length}
+use Rattle.std.specs.declared.ops.ControlFlow.{ControlFlow}
+use Rattle.std.specs.declared.ops.ControlFlow.TheVariants.{Break, Continue}
 use Rattle.words.specs.Table.{Table, Inside, Guess}
 use Rattle.lists.specs.Lists.{at}
 use Rattle.words.specs.Count.{open_below}
@@ -7,13 +9,12 @@ use Rattle.rules.specs.Tight.{Tight}
 use Rattle.rules.specs.Tightening.{Widest}
 use Rattle.problem.specs.Lent.{word_count, widths_of, rules_of}
 use Rattle.tighten.specs.Memory.{table_in, chosen}
-use Rattle.tighten.specs.Ready.{Ready, Listed}
+use Rattle.tighten.specs.Ready.{Tabled, Listed}
 use Rattle.trail.specs.Trail.{copied, undone}
 use Rattle.search_theory.specs.Search.{Outcome, found, none, gave_up, Search}
 use Rattle.search.specs.declared.Answer.{Answer}
 use Rattle.search.specs.declared.Answer.TheVariants.{Found, Nothing, GaveUp}
-use Rattle.search.specs.declared.Step.{Step}
-use Rattle.search.specs.declared.Step.TheVariants.{Ends, Guesses}
+use Rattle.search.specs.declared.Level.{Level}
 use Rattle.search.specs.Guessing.{copy_in, top_at, zero_at}
 
 -- the outcome that an answer stands for, with the values v found
@@ -33,7 +34,7 @@ pub record Frame (b : ℕ) (l m : List ℕ) : Type 0 where
 
 -- what the search asks: a proper table inside the copy, rules listed, and room on the trail for as many entries as the copy has open bits
 pub record Begun (ws bs l : List ℕ) (c b used limit : ℕ) : Type 0 where
-  pub ready : Ready ws bs l
+  pub tabled : Tabled ws l
   pub listed : Listed bs l c
   pub few : c ≤ 252
   pub copy : Inside (table_in (word_count ws) l) (copy_in (word_count ws) l)
@@ -59,6 +60,6 @@ pub record Guessed (ws bs : List ℕ) (c limit : ℕ) (l : List ℕ) (b used i e
   pub room : 380 + 2 * (e + open_below (word_count ws) (copy_in (word_count ws) m)) ≤ length m
 
 -- what one table has come to
-abbrev pub Prepared : List ℕ → List ℕ → ℕ → ℕ → List ℕ → ℕ → ℕ → Step → List ℕ → Type 0
-Prepared ws bs c limit l b used (Ends a) m = Searched ws bs c limit l b used a m
-Prepared ws bs c limit l b used (Guesses i e) m = Guessed ws bs c limit l b used i e m
+abbrev pub Prepared : List ℕ → List ℕ → ℕ → ℕ → List ℕ → ℕ → ℕ → ControlFlow Answer Level → List ℕ → Type 0
+Prepared ws bs c limit l b used (Break a) m = Searched ws bs c limit l b used a m
+Prepared ws bs c limit l b used (Continue v) m = Guessed ws bs c limit l b used v.word v.entries m

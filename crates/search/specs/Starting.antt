@@ -1,9 +1,7 @@
 -- Mirrors code: the search of a problem's own table, for the rules listed in lent memory.
 use Rattle.std.specs.Prelude.{◌≡◌, List, ℕ, ◌≤◌, ◌<◌, length}
 use Rattle.lists.specs.Lists.{at}
-use Rattle.rules.specs.ProperProblem.{ProperProblem}
-use Rattle.problem.specs.Lent.{word_count, widths_of, table_of, rules_of}
-use Rattle.checker.specs.Demands.{Sized}
+use Rattle.problem.specs.Lent.{word_count, table_of}
 use Rattle.tighten.specs.Memory.{table_in}
 use Rattle.tighten.specs.Ready.{Listed}
 use Rattle.search_theory.specs.Search.{Search}
@@ -14,10 +12,8 @@ use Rattle.search.specs.Searching.{outcome_of, TightIn}
 abbrev pub memory_length : ℕ
 memory_length = 4476
 
--- a proper problem, and c of its rules listed in memory
-pub record ToSearch (ws bs l : List ℕ) (c : ℕ) : Type 0 where
-  pub sized : Sized ws bs
-  pub problem : ProperProblem (widths_of ws) (table_of ws) (rules_of bs)
+-- c of a problem's rules bs are listed in memory
+pub record ToSearch (bs l : List ℕ) (c : ℕ) : Type 0 where
   pub listed : Listed bs l c
   pub few : c ≤ 252
   pub room : memory_length ≤ length l

@@ -1,20 +1,27 @@
 // The guess: the lowest-numbered word with an open bit, its highest open bit fixed 0, and then fixed 1 in the tight table.
-ghost use Rattle.std.specs.Prelude.{◌≡◌, ◌+◌, ◌<◌, ◌≤◌, length};
+ghost use Rattle.std.specs.Prelude.{◌≡◌, ◌+◌, ◌<◌, ◌≤◌, length, nat_lt};
+ghost use Rattle.std.specs.List.{position, zip};
+ghost use Rattle.words.specs.Word.{open_in};
 ghost use Rattle.search.specs.Guessing.{Lowest, Fixable, zero_fixed, one_fixed, Copied, Second};
 
-// The lowest-numbered of n words with an open bit; n where there is none.
-pub fn open_word(work: &[u64], n: usize) -> usize
+use tighten::buffer::HIGH;
+
+// The first place at which two lists of bounds leave a bit open.
+fn first_open(low: &[u64], high: &[u64]) -> Option<usize>
+    ensures { result ≡ position (λ x. nat_lt 0 (open_in x.0 x.1)) (zip low.now high.now) }
+{
+    low.iter()
+        .zip(high)
+        .position(|(lo, hi)| words::open_bits(*lo, *hi) > 0)
+}
+
+// The lowest-numbered of n words with an open bit.
+pub fn open_word(work: &[u64], n: usize) -> Option<usize>
     requires { (n ≤ 32) × (64 ≤ length work.now) }
     ensures { Lowest n work.now result }
 {
-    let mut i = 0;
-    while i < n {
-        if words::open_bits(work[i], work[i + 32]) > 0 {
-            return i;
-        }
-        i += 1;
-    }
-    n
+    let (low, high) = work.split_at(HIGH);
+    first_open(&low[..n], high)
 }
 
 // The highest open bit of a word fixed 0.
@@ -22,17 +29,17 @@ pub fn fix_first(work: &mut [u64], i: usize)
     requires { Fixable work.old i }
     ensures { work.new ≡ zero_fixed work.old i }
 {
-    let k = i + 32;
+    let k = i + HIGH;
     let j = words::highest_open(work[i], work[k]);
     work[k] = words::fix_zero(work[k], j);
 }
 
-// The highest open bit of a word fixed 1.
+// The highest open bit of a word fixed 1: the low bound rises, where the other value lowers the high one.
 fn fix_second(work: &mut [u64], i: usize)
     requires { Fixable work.old i }
     ensures { work.new ≡ one_fixed work.old i }
 {
-    let j = words::highest_open(work[i], work[i + 32]);
+    let j = words::highest_open(work[i], work[i + HIGH]);
     work[i] = words::fix_one(work[i], j);
 }
 

@@ -8,6 +8,9 @@ ghost use Rattle.std.specs.Prelude.{◌+◌};
 ghost use Rattle.search.specs.Searching.{Begun, Searched, Prepared};
 ghost use Rattle.search.specs.Starting.{ToSearch, Sought};
 
+use checker::Proper;
+use std::ops::ControlFlow;
+
 // What a search has come to: the settings are the low bounds of the table; there are none; or one more guess was needed than allowed.
 #[derive(Clone, Copy)]
 pub enum Answer {
@@ -16,98 +19,72 @@ pub enum Answer {
     GaveUp,
 }
 
-// What one table has come to: an answer; or a guess at a word, with the entries of the trail that there are now.
+// What stays the same over a search: a problem, how many of its rules are listed in memory, and how many guesses may be made.
 #[derive(Clone, Copy)]
-enum Step {
-    Ends(Answer),
-    Guesses(usize, usize),
+pub struct Task<'a> {
+    pub problem: Proper<'a>,
+    pub count: usize,
+    pub limit: u64,
 }
 
-// The table is tightened. Where a bit is open and the limit allows it, the copy becomes the tight table and the guess is fixed 0 in the present one.
-fn prepare(
-    work: &mut [u64],
-    words: &[u64],
-    rules: &[u8],
-    count: usize,
-    base: usize,
-    used: u64,
-    limit: u64,
-) -> Step
-    requires { Begun words.now rules.now work.old count base used limit }
-    ensures { Prepared words.now rules.now count limit work.old base used result work.new }
+// A guess: the word that it falls on, and how many entries the trail has then.
+#[derive(Clone, Copy)]
+struct Level {
+    word: usize,
+    entries: usize,
+}
+
+// The table is tightened: the answer, where that is one. Else, where a bit is open and the limit allows it, the copy becomes the tight table and the guess is
+// fixed 0 in the present one.
+fn prepare(work: &mut [u64], task: &Task<'_>, base: usize, used: u64) -> ControlFlow<Answer, Level>
+    requires { Begun task.now.problem.words.now task.now.problem.rules.now work.old task.now.count base used task.now.limit }
+    ensures { Prepared task.now.problem.words.now task.now.problem.rules.now task.now.count task.now.limit work.old base used result work.new }
 {
-    let n = words.len() / problem::STRIDE;
-    if !tighten::settle(work, words, rules, count) {
-        return Step::Ends(Answer::Nothing(used));
+    let n = task.problem.word_count();
+    if !tighten::settle(work, &task.problem, task.count) {
+        return ControlFlow::Break(Answer::Nothing(used));
     }
-    let word = guess::open_word(work, n);
-    if word == n {
-        return Step::Ends(Answer::Found(used));
-    }
-    if used == limit {
-        return Step::Ends(Answer::GaveUp);
+    let Some(word) = guess::open_word(work, n) else {
+        return ControlFlow::Break(Answer::Found(used));
+    };
+    if used == task.limit {
+        return ControlFlow::Break(Answer::GaveUp);
     }
     let entries = trail::commit(work, n, base);
     guess::fix_first(work, word);
-    Step::Guesses(word, entries)
+    ControlFlow::Continue(Level { word, entries })
 }
 
 // The search of the table in memory, with `used` guesses made. It calls itself for each value of its guess, and the open bits of the table fall at every call.
 // Whatever comes of it, the list, the copy and the first `base` entries of the trail are as they were.
-pub fn search(
-    work: &mut [u64],
-    words: &[u64],
-    rules: &[u8],
-    count: usize,
-    base: usize,
-    used: u64,
-    limit: u64,
-) -> Answer
-    requires { Begun words.now rules.now work.old count base used limit }
-    ensures { Searched words.now rules.now count limit work.old base used result work.new }
+pub fn search(work: &mut [u64], task: &Task<'_>, base: usize, used: u64) -> Answer
+    requires { Begun task.now.problem.words.now task.now.problem.rules.now work.old task.now.count base used task.now.limit }
+    ensures { Searched task.now.problem.words.now task.now.problem.rules.now task.now.count task.now.limit work.old base used result work.new }
 {
-    match prepare(work, words, rules, count, base, used, limit) {
-        Step::Ends(a) => a,
-        Step::Guesses(word, entries) => match search(
-            work,
-            words,
-            rules,
-            count,
-            entries,
-            used + 1,
-            limit,
-        ) {
-            Answer::Nothing(m) => {
-                guess::second_value(work, words.len() / problem::STRIDE, word);
-                let a = search(work, words, rules, count, entries, m, limit);
-                trail::rollback(work, base, entries);
-                a
-            }
-            Answer::Found(m) => {
-                trail::rollback(work, base, entries);
-                Answer::Found(m)
-            }
-            Answer::GaveUp => {
-                trail::rollback(work, base, entries);
-                Answer::GaveUp
-            }
-        },
+    let level = match prepare(work, task, base, used) {
+        ControlFlow::Break(answer) => return answer,
+        ControlFlow::Continue(level) => level,
+    };
+    let mut answer = search(work, task, level.entries, used + 1);
+    if let Answer::Nothing(guesses) = answer {
+        guess::second_value(work, task.problem.word_count(), level.word);
+        answer = search(work, task, level.entries, guesses);
     }
+    trail::rollback(work, base, level.entries);
+    answer
 }
 
 // The search of a problem's own table for the rules listed in memory; the list stays as it is.
-pub fn search_problem(
-    work: &mut [u64],
-    words: &[u64],
-    rules: &[u8],
-    count: usize,
-    limit: u64,
-) -> Answer
-    requires { ToSearch words.now rules.now work.old count }
-    ensures { Sought words.now rules.now count limit work.old result work.new }
+pub fn search_problem(work: &mut [u64], problem: &Proper<'_>, count: usize, limit: u64) -> Answer
+    requires { ToSearch problem.now.rules.now work.old count }
+    ensures { Sought problem.now.words.now problem.now.rules.now count limit work.old result work.new }
 {
-    let n = words.len() / problem::STRIDE;
-    tighten::buffer::load(work, words, n);
-    trail::copy_table(work, n, 0, trail::COPY);
-    search(work, words, rules, count, 0, 0, limit)
+    tighten::buffer::load(work, problem.words);
+    trail::copy_table(work, problem.word_count(), 0, trail::COPY);
+    let task = Task {
+        problem: *problem,
+        count,
+        limit,
+    };
+    search(work, &task, 0, 0)
 }

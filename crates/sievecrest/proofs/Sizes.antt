@@ -10,10 +10,12 @@ use Rattle.rules.specs.Kinds.{Place}
 use Rattle.rules.specs.Meaning.{Shape}
 use Rattle.rules.specs.Fits.{Span, Legal}
 use Rattle.rules.proofs.ProperRules.{problem_legal}
-use Rattle.checker.specs.declared.Checked.{Checked}
+use Rattle.std.specs.Prelude.{Result, Ok, Err}
+use Rattle.checker.specs.declared.refusal.Refusal.{Refusal}
+use Rattle.checker.specs.Refusals.{number_of, place_of}
 use Rattle.problem.specs.Lent.{word_count, rule_count, rule_at, rules_of}
 use Rattle.checker.specs.Demands.{Sized}
-use Rattle.checker.specs.Refusal.{refusal_with}
+use Rattle.checker.specs.Refusal.{Checked, refusal_with}
 use Rattle.checker.specs.Promise.{Fine}
 use Rattle.checker.proofs.Right.{ok_fine}
 use Rattle.checker.proofs.Rooms.{has_room, taken}
@@ -34,15 +36,13 @@ use Rattle.cause_theory.specs.Cause.{sum_of}
 use Rattle.cause_theory.proofs.Sum.{sum_limit, named_rules}
 use Rattle.cause.specs.declared.Caused.{Caused}
 use Rattle.cause.specs.Promise as Causing
-use Rattle.blocks.specs.declared.Reading.{Reading}
-use Rattle.blocks.specs.declared.Written.{Written}
+use Rattle.blocks.specs.declared.Problem.{Problem}
 use Rattle.blocks.specs.Edition.{edition1}
 use Rattle.blocks.specs.Promise as File
 use Rattle.blocks.specs.Written.{encode}
 use Rattle.blocks.proofs.Counts.{blocks_rise}
 use Rattle.blocks.proofs.Fair.{fair1}
 use Rattle.blocks.proofs.ReadBack.{length_encode}
-use Rattle.report.specs.declared.Advised.{Advised}
 use Rattle.report.specs.Printed.{most}
 use Rattle.report.specs.Promise as Report
 use Rattle.report.proofs.Advising.{lines_within}
@@ -53,29 +53,29 @@ use Rattle.sievecrest.proofs.Refusals.{advise_refused}
 within : (n c m : ℕ) → n < 256 → c < 4294967296 → m < 16777216 → Within (parts n c m)
 within n c m a b d = record { number = a; count = b; more = d }
 
-small_within : {n p : ℕ} → SmallRefusal n p → Within (parts n p 0)
-small_within {n} {p} h = within n p 0 (omega (arith, h.number)) (omega (arith, h.place)) (omega arith)
+small_within : {r : Refusal} → SmallRefusal r → Within (parts (number_of r) (place_of r) 0)
+small_within {r} h = within (number_of r) (place_of r) 0 (omega (arith, h.number)) (omega (arith, h.place)) (omega arith)
 
 -- ---- check
 
 pub check_within : (limit : ℕ) (ws bs : List ℕ) → Within (checked (refusal_with limit ws bs))
-check_within limit ws bs = go (refusal_with limit ws bs) (λ n p. check_refused limit ws bs)
+check_within limit ws bs = go (refusal_with limit ws bs) (λ r. check_refused limit ws bs)
   where
-    go : (x : Checked) → ((n p : ℕ) → x ≡ Checked.Refused n p → SmallRefusal n p) → Within (checked x)
-    go Checked.Ok h = within 35 0 0 (omega arith) (omega arith) (omega arith)
-    go (Checked.Refused n p) h = small_within (h n p refl)
+    go : (x : Checked) → ((r : Refusal) → x ≡ Err r → SmallRefusal r) → Within (checked x)
+    go (Ok t) h = within 35 0 0 (omega arith) (omega arith) (omega arith)
+    go (Err r) h = small_within (h r refl)
 
 -- ---- tighten
 
-pub tighten_within : {ws bs l : List ℕ} {x : Answer} {vs m : List ℕ} → Tighten.Tightening ws bs l x vs m → Within (tightened x)
+pub tighten_within : {ws bs l : List ℕ} {x : Result Answer Refusal} {vs m : List ℕ} → Tighten.Tightening ws bs l x vs m → Within (tightened x)
 tighten_within (Tighten.refused q) = small_within (tighten_refused (Tighten.refused q)).0
-tighten_within (Tighten.tight q w b c) = within 36 0 0 (omega arith) (omega arith) (omega arith)
-tighten_within (Tighten.conflict q w c) = within 37 0 0 (omega arith) (omega arith) (omega arith)
+tighten_within (Tighten.answered q (Tighten.tight w b c)) = within 36 0 0 (omega arith) (omega arith) (omega arith)
+tighten_within (Tighten.answered q (Tighten.conflict w c)) = within 37 0 0 (omega arith) (omega arith) (omega arith)
 
 -- ---- solve
 
 module _ {limit : ℕ} {ws bs m l : List ℕ} where
-  pub solve_within : limit < 4294967296 → {x : Solved} {m' l' : List ℕ} → Solve.Solving limit ws bs m l x m' l' → Within (solved x)
+  pub solve_within : limit < 4294967296 → {x : Result Solved Refusal} {m' l' : List ℕ} → Solve.Solving limit ws bs m l x m' l' → Within (solved x)
   solve_within short (Solve.refused q) = small_within (solve_refused (Solve.refused q)).0
   solve_within short (Solve.found_first {g = g} h c v k) =
       within 32 g 0 (omega arith) (omega (arith, count_limit c answer_found (omega arith))) (omega arith)
@@ -89,17 +89,17 @@ module _ {σ : Shape} {t : Span} (legal : Legal σ t) {p : Place} {j : ℕ} wher
   forced_bit : {b : ℕ} → Says.Says σ t p j (Says.FORCED b) → b < 2
   forced_bit (Says.says_forced {f = f} b fit all) = omega (arith, all f fit, bit_lt (f p) j)
 
-  explains_within : (x : Says.Answer) {out : List ℕ} → Explains σ t p j x out → Within (explained (Explain.given x (length out)))
+  explains_within : (x : Says.Answer) {out : List ℕ} → Explains σ t p j x out → Within (explained (Ok (Explain.given x (length out))))
   explains_within Says.CONFLICT {out} e = within 37 0 (length out) (omega arith) (omega arith) (omega (arith, reason_length legal e))
   explains_within (Says.FORCED b) {out} (with_reason n s r) =
       within 38 b (length out) (omega arith) (omega (arith, forced_bit s)) (omega (arith, reason_length legal (with_reason n s r)))
   explains_within Says.FREE e = within 39 0 0 (omega arith) (omega arith) (omega arith)
 
-  given_within : {l m : List ℕ} {r : Explained} → Explain.Explanation σ t p j l r m → Within (explained r)
+  given_within : {l m : List ℕ} {r : Explained} → Explain.Explanation σ t p j l r m → Within (explained (Ok r))
   given_within g = rw g.told (explains_within g.answer g.explains)
 
 module _ {ws bs : List ℕ} {n p j : ℕ} {l : List ℕ} where
-  pub explain_within : {x : Explained} {m : List ℕ} → Explain.Explaining ws bs n p j l x m → Within (explained x)
+  pub explain_within : {x : Result Explained Refusal} {m : List ℕ} → Explain.Explaining ws bs n p j l x m → Within (explained x)
   unfolding Explain.explain_refusal
   explain_within (Explain.refused q) = small_within (explain_refused {ws = ws} {bs = bs} {l = l} {i = n} {p = p} {j = j} (Explain.refused q)).0
   explain_within (Explain.judged q (Explain.not_asked d)) = within 10 0 0 (omega arith) (omega arith) (omega arith)
@@ -124,7 +124,7 @@ module _ {limit : ℕ} {ws bs s l : List ℕ} where
   named_within : {out : List ℕ} {g : ℕ} → Causing.CauseGiven limit ws bs s l → Causing.Named limit ws bs (Cause.CAUSE out g) → length out ≤ 252
   named_within g x = let f = passed_fine g in omega (arith, named_rules x, f.sized.rules, length_series (rule_count bs) (rule_at bs))
 
-  pub cause_within : {x : Caused} {s' l' : List ℕ} → Causing.Causing limit ws bs s l x s' l' → Within (caused x)
+  pub cause_within : {x : Result Caused Refusal} {s' l' : List ℕ} → Causing.Causing limit ws bs s l x s' l' → Within (caused x)
   cause_within (Causing.refused q) = small_within (cause_refused (Causing.refused q)).0
   cause_within (Causing.exists_at {g = g} h x c) = within 40 g 0 (omega arith) (sum_within h x) (omega arith)
   cause_within (Causing.gave_up_at {g = g} h x c) = within 34 g 0 (omega arith) (sum_within h x) (omega arith)
@@ -133,7 +133,7 @@ module _ {limit : ℕ} {ws bs s l : List ℕ} where
 
 -- ---- read and write
 
-pub read_within : {f a b y z : List ℕ} {x : Reading} → File.Reads edition1 f a b y z x → Within (read x)
+pub read_within : {f a b y z : List ℕ} {x : Result Problem Refusal} → File.Reads edition1 f a b y z x → Within (read x)
 read_within (File.size n p q) = small_within (read_refused (File.size n p q)).0
 read_within (File.fault room w x p q) = small_within (read_refused (File.fault room w x p q)).0
 read_within (File.refused room is e p q) = small_within (read_refused (File.refused room is e p q)).0
@@ -153,7 +153,7 @@ encode_within limit ws bs s =
       blocks_rise edition1.rules.most fair1.rules.some (rule_count bs) 252 s.rules,
     )
 
-pub write_within : {limit : ℕ} {ws bs f g : List ℕ} {x : Written} → File.Writes edition1 limit ws bs f g x → Within (written x)
+pub write_within : {limit : ℕ} {ws bs f g : List ℕ} {x : Result ℕ Refusal} → File.Writes edition1 limit ws bs f g x → Within (written x)
 write_within (File.size n q) = small_within (write_refused (File.size n q)).0
 write_within (File.refused room e q) = small_within (write_refused (File.refused room e q)).0
 write_within {limit} {ws} {bs} (File.ok {k = k} room e same q) =
@@ -161,7 +161,7 @@ write_within {limit} {ws} {bs} (File.ok {k = k} room e same q) =
 
 -- ---- advise
 
-pub advise_within : {f l k m n : List ℕ} {x : Advised} → length m ≤ most → Report.Advises f l k x m n → Within (advised x)
+pub advise_within : {f l k m n : List ℕ} {x : Result ℕ Refusal} → length m ≤ most → Report.Advises f l k x m n → Within (advised x)
 advise_within {f} h (Report.size d) = small_within (advise_refused {f = f} (Report.size d)).0
 advise_within h (Report.lines {e = e} lent report p c) =
     within 35 e 0 (omega arith) (omega (arith, lines_within (Report.lines lent report p c))) (omega arith)

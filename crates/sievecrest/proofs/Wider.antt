@@ -5,7 +5,8 @@ use Prim.Native.Nat.{ℕ, min, ◌≤◌}
 use native.Mathlib.Omega.{arith}
 use lib.ListN.{length, take, drop, length-take, take-append-drop}
 use lib.Seq.{drop-append-le}
-use Rattle.report.specs.declared.Advised.{Advised}
+use Rattle.std.specs.Prelude.{Result}
+use Rattle.checker.specs.declared.refusal.Refusal.{Refusal}
 use Rattle.report.specs.Text.{Report, text_of}
 use Rattle.report.specs.Printed.{most, Printed}
 use Rattle.report.specs.Promise.{Lent, Advises, size, lines}
@@ -29,6 +30,6 @@ module _ (l : List ℕ) (n : ℕ) (is : n ≡ min (length l) most) where
   lent_all : {k : List ℕ} → Lent (take n l) k → Lent l k
   lent_all h = record { bytes = omega (arith, first_length, h.bytes); memory = h.memory }
 
-  pub advise_wider : {f k m j : List ℕ} {r : Advised} → length m ≡ n → Advises f (take n l) k r m j → Advises f l k r (m ++ drop n l) j
+  pub advise_wider : {f k m j : List ℕ} {r : Result ℕ Refusal} → length m ≡ n → Advises f (take n l) k r m j → Advises f l k r (m ++ drop n l) j
   advise_wider h (size d) = rw (take-append-drop n l) (size (λ x. d (lent_first x)))
   advise_wider h (lines lent report p c) = lines (lent_all lent) report (printed_wider (omega (arith, h, lines_within (lines lent report p c))) p) c

@@ -2,7 +2,7 @@
 // Each call promises what the library's own call promises, and that its number is that answer's.
 #![tactic(auto)]
 
-ghost use Rattle.std.specs.Prelude.{◌≡◌, min};
+ghost use Rattle.std.specs.Prelude.{◌≡◌};
 ghost use Rattle.checker.specs.Refusal.{refusal_with};
 ghost use Rattle.tighten.specs.Promise.{Tightening};
 ghost use Rattle.solve.specs.Promise.{Solving};
@@ -10,19 +10,16 @@ ghost use Rattle.explain.specs.Promise.{Explaining};
 ghost use Rattle.cause.specs.Promise.{Causing};
 ghost use Rattle.blocks.specs.Edition.{edition1};
 ghost use Rattle.blocks.specs.Promise.{Reads, Writes};
-ghost use Rattle.report.specs.Printed.{most};
 ghost use Rattle.report.specs.Promise.{Advises};
 ghost use Rattle.packing.specs.Packed.{Returns, checked, tightened, solved, explained, caused, read, written, advised};
 
-use packing::{
-    of_advised, of_caused, of_checked, of_explained, of_read, of_solved, of_tightened, of_written,
-};
+use packing::pack;
 
 #[unsafe(no_mangle)]
 pub extern "C" fn sievecrest_check(words: &[u64], rules: &[u8], limit: u32) -> u64
     ensures { Returns (λ x. x ≡ refusal_with limit words.now rules.now) checked result }
 {
-    of_checked(checker::check(words, rules, limit))
+    pack(checker::check(words, rules, limit))
 }
 
 #[unsafe(no_mangle)]
@@ -30,7 +27,7 @@ pub extern "C" fn sievecrest_tighten(words: &mut [u64], rules: &[u8], work: &mut
     ensures { Returns (λ x. Tightening words.old rules.now work.old x words.new work.new)
         tightened result }
 {
-    of_tightened(tighten::tighten(words, rules, work))
+    pack(tighten::tighten(words, rules, work))
 }
 
 #[unsafe(no_mangle)]
@@ -44,7 +41,7 @@ pub extern "C" fn sievecrest_solve(
     ensures { Returns (λ x. Solving limit words.now rules.now model.old work.old x model.new
         work.new) solved result }
 {
-    of_solved(solve::solve(words, rules, limit, model, work))
+    pack(solve::solve(words, rules, limit, model, work))
 }
 
 #[unsafe(no_mangle)]
@@ -59,7 +56,7 @@ pub extern "C" fn sievecrest_explain(
     ensures { Returns (λ x. Explaining words.now rules.now rule place bit list.old x list.new)
         explained result }
 {
-    of_explained(explain::explain(words, rules, rule, place, bit, list))
+    pack(explain::explain(words, rules, rule, place, bit, list))
 }
 
 #[unsafe(no_mangle)]
@@ -73,7 +70,7 @@ pub extern "C" fn sievecrest_cause(
     ensures { Returns (λ x. Causing limit words.now rules.now list.old work.old x list.new
         work.new) caused result }
 {
-    of_caused(cause::cause(words, rules, limit, list, work))
+    pack(cause::cause(words, rules, limit, list, work))
 }
 
 #[unsafe(no_mangle)]
@@ -81,24 +78,14 @@ pub extern "C" fn sievecrest_read(file: &[u8], words: &mut [u64], rules: &mut [u
     ensures { Returns (Reads edition1 file.now words.old rules.old words.new rules.new)
         read result }
 {
-    of_read(reader::read(file, words, rules))
+    pack(reader::read(file, words, rules))
 }
 
 #[unsafe(no_mangle)]
 pub extern "C" fn sievecrest_write(words: &[u64], rules: &[u8], limit: u32, file: &mut [u8]) -> u64
     ensures { Returns (Writes edition1 limit words.now rules.now file.old file.new) written result }
 {
-    of_written(writer::write(words, rules, limit, file))
-}
-
-// The bytes that a report can have, of so many.
-fn report_bytes(lent: usize) -> usize
-    ensures { result ≡ min lent most }
-{
-    if lent < report::MOST {
-        return lent;
-    }
-    report::MOST
+    pack(writer::write(words, rules, limit, file))
 }
 
 // Only as many of the lent bytes as a report can have are passed on.
@@ -107,6 +94,6 @@ pub extern "C" fn sievecrest_advise(file: &[u8], out: &mut [u8], work: &mut [u64
     ensures { Returns (λ x. Advises file.now out.old work.old x out.new work.new)
         advised result }
 {
-    let n = report_bytes(out.len());
-    of_advised(report::advise(file, &mut out[..n], work))
+    let n = out.len().min(report::MOST);
+    pack(report::advise(file, &mut out[..n], work))
 }

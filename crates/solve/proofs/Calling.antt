@@ -4,7 +4,9 @@ use mathlib.Core.List.{List}
 use Prim.Native.Nat.{ℕ, ◌≤◌, ◌<◌}
 use native.Mathlib.Omega.{arith}
 use lib.ListN.{length}
-use Rattle.checker.specs.declared.Checked.TheVariants.{Ok, Refused}
+use Rattle.std.specs.Prelude.{Ok, Err}
+use Rattle.checker.specs.declared.refusal.Refusal.{Refusal}
+use Rattle.checker.specs.declared.refusal.Refusal.TheVariants.{Size}
 use Rattle.problem.specs.Lent.{word_count, rule_count}
 use Rattle.checker.specs.Refusal.{refusal_with}
 use Rattle.checker.specs.Promise.{Fine}
@@ -23,27 +25,27 @@ use Rattle.solve.specs.Promise.{solve_work, solve_refusal, Stored, Comes, Solvin
 -- ---- what is refused
 
 module _ (limit : ℕ) (ws bs m l : List ℕ) where
-  pub short_work : length l < solve_work → Solving limit ws bs m l (answer.Refused 1 0) m l
+  pub short_work : length l < solve_work → Solving limit ws bs m l (Err Size) m l
   unfolding solve_refusal
   short_work h = refused (first_short solve_work (length l) (word_count ws) (length m) (refusal_with limit ws bs) h)
 
-  pub short_model : solve_work ≤ length l → length m < word_count ws → Solving limit ws bs m l (answer.Refused 1 0) m l
+  pub short_model : solve_work ≤ length l → length m < word_count ws → Solving limit ws bs m l (Err Size) m l
   unfolding solve_refusal
   short_model g h = refused (second_short solve_work (length l) (word_count ws) (length m) (refusal_with limit ws bs) g h)
 
-  pub problem_refused : {n p : ℕ} → solve_work ≤ length l → word_count ws ≤ length m → refusal_with limit ws bs ≡ Refused n p
-      → Solving limit ws bs m l (answer.Refused n p) m l
+  pub problem_refused : {r : Refusal} → solve_work ≤ length l → word_count ws ≤ length m → refusal_with limit ws bs ≡ Err r
+      → Solving limit ws bs m l (Err r) m l
   unfolding solve_refusal
   problem_refused g h e = refused (roomy solve_work (length l) (word_count ws) (length m) (refusal_with limit ws bs) g h ∙ e)
 
-  pub nothing_refused : solve_work ≤ length l → word_count ws ≤ length m → refusal_with limit ws bs ≡ Ok → SolveGiven limit ws bs m l
+  pub nothing_refused : solve_work ≤ length l → word_count ws ≤ length m → refusal_with limit ws bs ≡ Ok tt → SolveGiven limit ws bs m l
   unfolding solve_refusal
   nothing_refused g h e = record { passed = roomy solve_work (length l) (word_count ws) (length m) (refusal_with limit ws bs) g h ∙ e }
 
 -- ---- what is not
 
 module _ {limit : ℕ} {ws bs m l : List ℕ} (given : SolveGiven limit ws bs m l) where
-  roomed : (solve_work ≤ length l) × (word_count ws ≤ length m) × (refusal_with limit ws bs ≡ Ok)
+  roomed : (solve_work ≤ length l) × (word_count ws ≤ length m) × (refusal_with limit ws bs ≡ Ok tt)
   unfolding solve_refusal
   roomed = has_room solve_work (length l) (word_count ws) (length m) (refusal_with limit ws bs) given.passed
 
@@ -58,10 +60,8 @@ module _ {limit : ℕ} {ws bs m l : List ℕ} (given : SolveGiven limit ws bs m 
 
   -- the first c rules are listed
   module _ {c : ℕ} {k : List ℕ} (y : Numbered c l k) where
-    pub asked : c ≤ rule_count bs → ToSearch ws bs k c
+    pub asked : c ≤ rule_count bs → ToSearch bs k c
     asked few = record {
-      sized = fine.sized;
-      problem = fine.problem;
       listed = record { room = omega (arith, fine.sized.rules, work_room, y.size); each = λ j h. rw (y.each j h) (omega arith) };
       few = omega (arith, fine.sized.rules);
       room = omega (arith, work_room, y.size);
@@ -80,13 +80,13 @@ module _ {limit : ℕ} {ws bs m l : List ℕ} (given : SolveGiven limit ws bs m 
         comes = rw (all_chosen bs (rw all at y)) at (rw all at s.search)
 
         pub end_found : {g : ℕ} {m' l' : List ℕ} → r ≡ Found g → Stored (word_count ws) z m m' → Cleared z l'
-            → Solving limit ws bs m l (answer.Found g) m' l'
+            → Solving limit ws bs m l (Ok (answer.Found g)) m' l'
         end_found e x d =
             found_first given (rw e at comes)
             (record { size = x.size; each = λ i h. x.each i h ∙ sym (low_at (word_count ws) z i h); rest = x.rest }) (cleared d)
 
-        pub end_none : {g : ℕ} {l' : List ℕ} → r ≡ Nothing g → Cleared z l' → Solving limit ws bs m l (answer.Nothing g) m l'
+        pub end_none : {g : ℕ} {l' : List ℕ} → r ≡ Nothing g → Cleared z l' → Solving limit ws bs m l (Ok (answer.Nothing g)) m l'
         end_none e d = found_none given (rw e at comes) (cleared d)
 
-        pub end_gave_up : {l' : List ℕ} → r ≡ GaveUp → Cleared z l' → Solving limit ws bs m l (answer.GaveUp limit) m l'
+        pub end_gave_up : {l' : List ℕ} → r ≡ GaveUp → Cleared z l' → Solving limit ws bs m l (Ok (answer.GaveUp limit)) m l'
         end_gave_up e d = gave_up_at given (rw e at comes) (cleared d)

@@ -10,7 +10,8 @@ use Rattle.words.specs.Table.{Table}
 use Rattle.lists.specs.Lists.{at}
 use Rattle.rules.specs.Proper.{Proper}
 use Rattle.rules.specs.Tightening.{Widest, Conflict}
-use Rattle.checker.specs.declared.Checked.TheVariants.{Refused}
+use Rattle.std.specs.Prelude.{Result, Ok, Err}
+use Rattle.checker.specs.declared.refusal.Refusal.{Refusal}
 use Rattle.problem.specs.Lent.{word_count, widths_of, table_of, rules_of, lo_at}
 use Rattle.lists.proofs.Series.{length_series}
 use Rattle.tighten.specs.Memory.{Cleared}
@@ -29,21 +30,21 @@ use Rattle.solve.proofs.Calling.{model_room, fine}
 use Rattle.solve.proofs.Once.{comes_once}
 
 -- what is answered where an outcome is come to
-abbrev answer_to : ℕ → Outcome → Solved
-answer_to limit (found v g) = answer.Found g
-answer_to limit (none g) = answer.Nothing g
-answer_to limit gave_up = answer.GaveUp limit
+abbrev answer_to : ℕ → Outcome → Result Solved Refusal
+answer_to limit (found v g) = Ok (answer.Found g)
+answer_to limit (none g) = Ok (answer.Nothing g)
+answer_to limit gave_up = Ok (answer.GaveUp limit)
 
 module _ {limit : ℕ} {ws bs m l : List ℕ} where
   -- ---- demand 1
 
   -- a refusal is the first one of the list, with its place, and alters nothing
-  pub refusal_exact : {n p : ℕ} {m' l' : List ℕ} → Solving limit ws bs m l (answer.Refused n p) m' l'
-      → (solve_refusal limit ws bs m l ≡ Refused n p) × (m' ≡ m) × (l' ≡ l)
+  pub refusal_exact : {r : Refusal} {m' l' : List ℕ} → Solving limit ws bs m l (Err r) m' l'
+      → (solve_refusal limit ws bs m l ≡ Err r) × (m' ≡ m) × (l' ≡ l)
   refusal_exact (refused e) = (e, refl, refl)
 
   -- after every other answer work memory is all 0
-  pub work_cleared : {x : Solved} {m' l' : List ℕ} → SolveGiven limit ws bs m l → Solving limit ws bs m l x m' l' → Cleared l l'
+  pub work_cleared : {x : Result Solved Refusal} {m' l' : List ℕ} → SolveGiven limit ws bs m l → Solving limit ws bs m l x m' l' → Cleared l l'
   work_cleared g (refused e) = absurd (let z : ◌≡◌ {A = ℕ} 0 1 = cc (g.passed, e) in omega arith)
   work_cleared g (found_first h s x c) = c
   work_cleared g (found_none h s c) = c
@@ -58,7 +59,8 @@ module _ {limit : ℕ} {ws bs m l : List ℕ} where
   no_guess g k {o} s = conflict_no_guess (widths_of ws) (rules_of bs) (table_of ws) (proper g) limit o k s
 
   -- the first numbers of the model are the first settings in word order
-  pub found_right : {g : ℕ} {m' l' : List ℕ} → Solving limit ws bs m l (answer.Found g) m' l' → First (Holding ws bs) (table_of ws) (take (word_count ws) m')
+  pub found_right : {g : ℕ} {m' l' : List ℕ} → Solving limit ws bs m l (Ok (answer.Found g)) m' l'
+      → First (Holding ws bs) (table_of ws) (take (word_count ws) m')
   found_right {g} {m'} (found_first {v = v} h s x c) = subst (First (Holding ws bs) (table_of ws)) (sym same) first
     where
       first : First (Holding ws bs) (table_of ws) v
@@ -76,17 +78,17 @@ module _ {limit : ℕ} {ws bs m l : List ℕ} where
           (λ i k. let less : i < word_count ws = rw long at k in get_or-take (word_count ws) m' i 0 less ∙ x.each i less)
 
   -- NONE: there are no settings
-  pub none_right : {g : ℕ} {m' l' : List ℕ} → Solving limit ws bs m l (answer.Nothing g) m' l' → Without (Holding ws bs) (table_of ws)
+  pub none_right : {g : ℕ} {m' l' : List ℕ} → Solving limit ws bs m l (Ok (answer.Nothing g)) m' l' → Without (Holding ws bs) (table_of ws)
   none_right (found_none h s c) = outcome_right (widths_of ws) (rules_of bs) (table_of ws) (proper h) limit _ s
 
   -- the model stays but after FOUND, and then changes in its first numbers only
-  pub model_kept : {x : Solved} {m' l' : List ℕ} → Solving limit ws bs m l x m' l' → (i : ℕ) → word_count ws ≤ i → at m' i ≡ at m i
+  pub model_kept : {x : Result Solved Refusal} {m' l' : List ℕ} → Solving limit ws bs m l x m' l' → (i : ℕ) → word_count ws ≤ i → at m' i ≡ at m i
   model_kept (refused e) i k = refl
   model_kept (found_first h s x c) i k = x.rest i k
   model_kept (found_none h s c) i k = refl
   model_kept (gave_up_at h s c) i k = refl
 
-  outcome : {x : Solved} {m' l' : List ℕ} → SolveGiven limit ws bs m l → Solving limit ws bs m l x m' l'
+  outcome : {x : Result Solved Refusal} {m' l' : List ℕ} → SolveGiven limit ws bs m l → Solving limit ws bs m l x m' l'
       → (o : Outcome) × Comes limit ws bs o × (x ≡ answer_to limit o)
   outcome g (refused e) = absurd (let z : ◌≡◌ {A = ℕ} 0 1 = cc (g.passed, e) in omega arith)
   outcome g (found_first h s x c) = (found _ _, s, refl)
@@ -94,7 +96,7 @@ module _ {limit : ℕ} {ws bs m l : List ℕ} where
   outcome g (gave_up_at h s c) = (gave_up, s, refl)
 
   -- the answer by the problem's number G
-  pub solve_answers : {x : Solved} {m' l' : List ℕ} (G : ℕ) → Guesses (Tightly ws bs) (Holding ws bs) (table_of ws) G
+  pub solve_answers : {x : Result Solved Refusal} {m' l' : List ℕ} (G : ℕ) → Guesses (Tightly ws bs) (Holding ws bs) (table_of ws) G
       → SolveGiven limit ws bs m l → Solving limit ws bs m l x m' l' → Answered limit G ws bs x
   solve_answers {x} {m'} {l'} G q g z = go (dec_le G limit)
     where
@@ -110,15 +112,15 @@ module _ {limit : ℕ} {ws bs m l : List ℕ} where
       go (no h) = let less : limit < G = omega arith in rw (said gave_up (q.fewer limit less)) (not_reached less)
 
   -- GAVE UP: its count is the limit, and the search with one guess more makes that guess
-  pub gave_up_right : {g : ℕ} {m' l' : List ℕ} → Solving limit ws bs m l (answer.GaveUp g) m' l'
+  pub gave_up_right : {g : ℕ} {m' l' : List ℕ} → Solving limit ws bs m l (Ok (answer.GaveUp g)) m' l'
       → (g ≡ limit) × ((o : Outcome) × Comes (suc limit) ws bs o × (count (suc limit) o ≡ suc limit))
   gave_up_right (gave_up_at h s c) = (refl, (gave_up_just (widths_of ws) (rules_of bs) (table_of ws) (proper h) limit).0 s)
 
   -- ---- demand 3
 
   -- where the first tightening conflicts there is no guess
-  pub conflict_none : {x : Solved} {m' l' : List ℕ} → SolveGiven limit ws bs m l → Conflict (Tightly ws bs) (table_of ws)
-      → Solving limit ws bs m l x m' l' → x ≡ answer.Nothing 0
+  pub conflict_none : {x : Result Solved Refusal} {m' l' : List ℕ} → SolveGiven limit ws bs m l → Conflict (Tightly ws bs) (table_of ws)
+      → Solving limit ws bs m l x m' l' → x ≡ Ok (answer.Nothing 0)
   conflict_none g k (refused e) = absurd (let z : ◌≡◌ {A = ℕ} 0 1 = cc (g.passed, e) in omega arith)
   conflict_none g k (found_first h s x c) = absurd (found_not_none (no_guess g k s))
   conflict_none g k (found_none h s c) = let e = no_guess g k s in cc
@@ -126,15 +128,15 @@ module _ {limit : ℕ} {ws bs m l : List ℕ} where
 
   module _ (u : Table) (tight : Widest (Tightly ws bs) (table_of ws) u) (c : ℕ) (ceiling : Ceiling (rules_of bs) (table_of ws) u c) where
     -- the count is at most the ceiling
-    pub found_count : {g : ℕ} {m' l' : List ℕ} → Solving limit ws bs m l (answer.Found g) m' l' → g ≤ c
+    pub found_count : {g : ℕ} {m' l' : List ℕ} → Solving limit ws bs m l (Ok (answer.Found g)) m' l' → g ≤ c
     found_count (found_first h s x k) =
         count_ceiling (widths_of ws) (rules_of bs) (table_of ws) (proper h) u tight c ceiling limit _ _ s answer_found
 
-    pub none_count : {g : ℕ} {m' l' : List ℕ} → Solving limit ws bs m l (answer.Nothing g) m' l' → g ≤ c
+    pub none_count : {g : ℕ} {m' l' : List ℕ} → Solving limit ws bs m l (Ok (answer.Nothing g)) m' l' → g ≤ c
     none_count (found_none h s k) =
         count_ceiling (widths_of ws) (rules_of bs) (table_of ws) (proper h) u tight c ceiling limit _ _ s answer_none
 
     -- a limit that reaches it never gives up
-    pub never_gives_up : {g : ℕ} {m' l' : List ℕ} → c ≤ limit → ¬ Solving limit ws bs m l (answer.GaveUp g) m' l'
+    pub never_gives_up : {g : ℕ} {m' l' : List ℕ} → c ≤ limit → ¬ Solving limit ws bs m l (Ok (answer.GaveUp g)) m' l'
     never_gives_up q (gave_up_at h s k) =
         ceiling_reached (widths_of ws) (rules_of bs) (table_of ws) (proper h) u tight c ceiling limit gave_up q s refl

@@ -10,6 +10,8 @@ use Rattle.tighten.proofs.Once.{cleared_once}
 use Rattle.search_theory.specs.Search.{Outcome}
 use Rattle.search_theory.proofs.Outcomes.{found_not_none, found_not_gave_up, none_not_gave_up}
 use Rattle.search_theory.proofs.Unique.{one_outcome}
+use Rattle.std.specs.Prelude.{Result}
+use Rattle.checker.specs.declared.refusal.Refusal.{Refusal}
 use Rattle.solve.specs.declared.Solved.{Solved}
 use Rattle.solve.specs.Promise.{Comes, Solving, refused, found_first, found_none, gave_up_at}
 use Rattle.solve.proofs.Storing.{stored_once}
@@ -18,7 +20,8 @@ pub comes_once : (limit : ℕ) (ws bs : List ℕ) {o o' : Outcome} → Comes lim
 comes_once limit ws bs s s' = one_outcome (Tight (widths_of ws) (rules_of bs)) limit s s'
 
 module _ {limit : ℕ} {ws bs m l : List ℕ} where
-  pub solve_once : {x y : Solved} {a b k n : List ℕ} → Solving limit ws bs m l x a k → Solving limit ws bs m l y b n → (x ≡ y) × (a ≡ b) × (k ≡ n)
+  pub solve_once : {x y : Result Solved Refusal} {a b k n : List ℕ} → Solving limit ws bs m l x a k → Solving limit ws bs m l y b n
+      → (x ≡ y) × (a ≡ b) × (k ≡ n)
   solve_once (refused a) (refused b) = (cc, refl, refl)
   solve_once (refused a) (found_first g s x c) = absurd (refused_not_ok a g.passed)
   solve_once (refused a) (found_none g s c) = absurd (refused_not_ok a g.passed)

@@ -17,6 +17,8 @@ use Rattle.search_theory.specs.Search.{Outcome, found}
 use Rattle.search_theory.proofs.Outcomes.{found_not_none, found_not_gave_up}
 use Rattle.search_theory.proofs.Unique.{one_outcome}
 use Rattle.search_theory.proofs.Solved.{solved, solved_right}
+use Rattle.std.specs.Prelude.{Result, Ok, Err}
+use Rattle.checker.specs.declared.refusal.Refusal.{Refusal}
 use Rattle.solve.specs.declared.Solved.{Solved}
 use Rattle.solve.specs.declared.Solved.TheVariants as answer
 use Rattle.solve.specs.Promise.{solve_work, Comes, Solving, refused, found_first, found_none, gave_up_at, SolveGiven}
@@ -42,16 +44,16 @@ module _ (l : List ℕ) (room : solve_work ≤ length l) (m : ℕ) where
   unfolding solved series tightened
   only_b o s = only given_b o s
 
-  pub not_refusing : {n p : ℕ} {m' l' : List ℕ} → ¬ Solving 1 words_b [] (m ∷ []) l (answer.Refused n p) m' l'
+  pub not_refusing : {r : Refusal} {m' l' : List ℕ} → ¬ Solving 1 words_b [] (m ∷ []) l (Err r) m' l'
   not_refusing (refused e) = let z : ◌≡◌ {A = ℕ} 0 1 = cc (given_b.passed, e) in omega arith
 
-  pub not_giving_up : {g : ℕ} {m' l' : List ℕ} → ¬ Solving 1 words_b [] (m ∷ []) l (answer.GaveUp g) m' l'
+  pub not_giving_up : {g : ℕ} {m' l' : List ℕ} → ¬ Solving 1 words_b [] (m ∷ []) l (Ok (answer.GaveUp g)) m' l'
   not_giving_up (gave_up_at h s c) = found_not_gave_up (sym (only_b _ s))
 
-  pub not_none : {g : ℕ} {m' l' : List ℕ} → ¬ Solving 1 words_b [] (m ∷ []) l (answer.Nothing g) m' l'
+  pub not_none : {g : ℕ} {m' l' : List ℕ} → ¬ Solving 1 words_b [] (m ∷ []) l (Ok (answer.Nothing g)) m' l'
   not_none (found_none h s c) = found_not_none (sym (only_b _ s))
 
-  pub not_invented : {g : ℕ} {m' l' : List ℕ} → Solving 1 words_b [] (m ∷ []) l (answer.Found g) m' l' → g ≡ 1
+  pub not_invented : {g : ℕ} {m' l' : List ℕ} → Solving 1 words_b [] (m ∷ []) l (Ok (answer.Found g)) m' l' → g ≡ 1
   not_invented (found_first h s x c) = let e = only_b _ s in cc
 
 -- ---- board G: words 0 and 1 of width 2 open, word 2 fixed 3, word 2 = word 0 + word 1, word 1 at most word 0; FOUND 2, 1, 3
@@ -72,7 +74,7 @@ module _ (l : List ℕ) (room : solve_work ≤ length l) (m : List ℕ) (three :
   only_g o s = only given_g o s
 
   -- whatever the answer, the model begins with 2
-  two_g : {x : Solved} {m' l' : List ℕ} → Solving 100 words_g rules_g m l x m' l' → at m' 0 ≡ 2
+  two_g : {x : Result Solved Refusal} {m' l' : List ℕ} → Solving 100 words_g rules_g m l x m' l' → at m' 0 ≡ 2
   two_g (refused e) = absurd (let z : ◌≡◌ {A = ℕ} 0 1 = cc (given_g.passed, e) in omega arith)
   two_g (found_first {v = v} h s x c) =
       let e = only_g _ s in
@@ -82,9 +84,9 @@ module _ (l : List ℕ) (room : solve_work ≤ length l) (m : List ℕ) (three :
   two_g (gave_up_at h s c) = absurd (found_not_gave_up (sym (only_g _ s)))
 
   -- a model that does not begin with 2 is not left as it was
-  pub not_untouched : at m 0 ≢ 2 → {x : Solved} {l' : List ℕ} → ¬ Solving 100 words_g rules_g m l x m l'
+  pub not_untouched : at m 0 ≢ 2 → {x : Result Solved Refusal} {l' : List ℕ} → ¬ Solving 100 words_g rules_g m l x m l'
   not_untouched d z = d (two_g z)
 
   -- the first settings of the first rule alone, 0, 3, 3, are not given
-  pub not_first_rule : {x : Solved} {l' : List ℕ} → ¬ Solving 100 words_g rules_g m l x (0 ∷ 3 ∷ 3 ∷ []) l'
+  pub not_first_rule : {x : Result Solved Refusal} {l' : List ℕ} → ¬ Solving 100 words_g rules_g m l x (0 ∷ 3 ∷ 3 ∷ []) l'
   not_first_rule z = omega (arith, two_g z)

@@ -4,14 +4,14 @@
 ghost use Rattle.std.specs.Prelude.{◌≤◌, length};
 ghost use Rattle.solve.specs.Promise.{Stored, Solving, SolveGiven};
 
+use checker::{Proper, Refusal};
+
 // The answer: the first settings are in the model; there are none; one more guess was needed than allowed; each with its count.
-// Or the number of the first refusal, and its place.
-#[derive(Clone, Copy)]
+#[derive(Clone, Copy, Debug, PartialEq, Eq)]
 pub enum Solved {
     Found(u64),
     Nothing(u64),
     GaveUp(u64),
-    Refused(u64, u64),
 }
 
 // The numbers of work memory that solving needs.
@@ -22,30 +22,20 @@ fn store(model: &mut [u64], work: &[u64], n: usize)
     requires { (n ≤ length model.old) × (n ≤ length work.now) }
     ensures { Stored n work.now model.old model.new }
 {
-    let mut i = 0;
-    while i < n {
-        model[i] = work[i];
-        i += 1;
-    }
+    model[..n].copy_from_slice(&work[..n]);
 }
 
 // A proper problem solved: all its rules listed, the search, the settings stored where there are some, and the memory cleared.
-fn solve_proper(
-    words: &[u64],
-    rules: &[u8],
-    limit: u64,
-    model: &mut [u64],
-    work: &mut [u64],
-) -> Solved
-    requires { SolveGiven limit words.now rules.now model.old work.old }
-    ensures { Solving limit words.now rules.now model.old work.old result model.new
+fn solve_proper(problem: &Proper<'_>, limit: u64, model: &mut [u64], work: &mut [u64]) -> Solved
+    requires { SolveGiven limit problem.now.words.now problem.now.rules.now model.old work.old }
+    ensures { Solving limit problem.now.words.now problem.now.rules.now model.old work.old (Ok result) model.new
         work.new }
 {
-    let c = rules.len() / problem::FIELDS;
-    tighten::buffer::list_all(work, c);
-    match search::search_problem(work, words, rules, c, limit) {
+    let rules = problem.rule_count();
+    tighten::buffer::list_all(work, rules);
+    match search::search_problem(work, problem, rules, limit) {
         search::Answer::Found(count) => {
-            store(model, work, words.len() / problem::STRIDE);
+            store(model, work, problem.word_count());
             tighten::buffer::clear(work);
             Solved::Found(count)
         }
@@ -63,19 +53,23 @@ fn solve_proper(
 // Solves a problem. FOUND: the first numbers of the model, one a word, are the first settings in word order, and the rest of it stays. NONE and GAVE UP: the
 // model stays. Work memory of at least 4,608 numbers is lent, and is all 0 after these answers; a refusal alters nothing. A limit of 0 lets tightening
 // alone decide.
-pub fn solve(words: &[u64], rules: &[u8], limit: u32, model: &mut [u64], work: &mut [u64]) -> Solved
+pub fn solve(
+    words: &[u64],
+    rules: &[u8],
+    limit: u32,
+    model: &mut [u64],
+    work: &mut [u64],
+) -> Result<Solved, Refusal>
     ensures { Solving limit words.now rules.now model.old work.old result model.new
         work.new }
 {
     if work.len() < WORK {
-        return Solved::Refused(checker::SIZE, 0);
+        return Err(Refusal::Size);
     }
     if model.len() < words.len() / problem::STRIDE {
-        return Solved::Refused(checker::SIZE, 0);
+        return Err(Refusal::Size);
     }
-    let x = checker::check(words, rules, limit);
-    if let checker::Checked::Refused(number, place) = x {
-        return Solved::Refused(number, place);
-    }
-    solve_proper(words, rules, limit as u64, model, work)
+    let problem = Proper::new(words, rules)?;
+    checker::limit_refusal(limit)?;
+    Ok(solve_proper(&problem, u64::from(limit), model, work))
 }

@@ -7,22 +7,24 @@ use native.Mathlib.Omega.{arith}
 use native.Mathlib.Decide.{ℕ_discrete}
 use lib.ListN.{length, set, length-set}
 use lib.Seq.{ext_get_or, get_or-set_same, get_or-set_other}
-use Rattle.checker.specs.Promise.{Taken}
+use Rattle.checker.specs.Promise.{Fine}
+use Rattle.checker.proofs.Right.{proper_fine}
 use Rattle.lists.specs.Lists.{at, series}
 use Rattle.words.proofs.Tables.{table_path}
 use Rattle.rules.specs.Tight.{rule}
 use Rattle.problem.specs.Lent.{stride, word_count, width_at, lo_at, hi_at, table_of, rule_count, rule_at, rules_of}
-use Rattle.checker.specs.declared.Checked.TheVariants.{Ok, Refused}
+use Rattle.std.specs.Prelude.{Ok, Err}
+use Rattle.checker.specs.declared.refusal.Refusal.{Refusal}
+use Rattle.checker.specs.declared.refusal.Refusal.TheVariants.{Size}
 use Rattle.checker.specs.Demands.{Sized}
 use Rattle.checker.specs.Refusal.{refusal}
 use Rattle.checker.proofs.Rooms.{first_short, roomy, taken}
 use Rattle.lists.proofs.Series.{length_series, series_at, series_same}
 use Rattle.problem.proofs.Lents.{rule_at_lem}
-use Rattle.tighten.specs.declared.Answer.{Answer}
 use Rattle.tighten.specs.declared.Answer.TheVariants as answer
 use Rattle.tighten.specs.Memory.{table_in, chosen, Loaded, Numbered, Cleared, put_bounds}
-use Rattle.tighten.specs.Ready.{Ready, Listed, Settled}
-use Rattle.tighten.specs.Promise.{tighten_work, tighten_refusal, WithBounds, TightenEnds, ended_tight, ended_conflict, Tightening, refused, tight, conflict}
+use Rattle.tighten.specs.Ready.{Tabled, Listed, Settled, Left}
+use Rattle.tighten.specs.Promise.{tighten_work, tighten_refusal, WithBounds, tight, conflict, Tightening, refused, answered}
 use Rattle.tighten.proofs.Memory.{low_at, high_at, lows, highs}
 use Rattle.tighten.proofs.Buffers.{put_length}
 
@@ -47,24 +49,22 @@ module _ (bs : List ℕ) {l m : List ℕ} (y : Numbered (rule_count bs) l m) whe
   pub all_listed : 64 + rule_count bs ≤ length m → Listed bs m (rule_count bs)
   all_listed room = record { room = room; each = λ j h. rw (y.each j h) h }
 
-module _ {ws bs k l m : List ℕ} (given : Taken tighten_work (length k) ws bs) (x : Loaded (word_count ws) ws k l) (y : Numbered (rule_count bs) l m) where
-  pub loaded_table : table_in (word_count ws) m ≡ table_of ws
+module _ {ws bs k l m : List ℕ} (fine : Fine 0 ws bs) (room : tighten_work ≤ length k) (x : Loaded (word_count ws) ws k l)
+    (y : Numbered (rule_count bs) l m) where
+  loaded_table : table_in (word_count ws) m ≡ table_of ws
   loaded_table =
-      let c = given.sized.words in
-      let r = given.room in
-      table_is (word_count ws) m (lo_at ws) (hi_at ws) c (omega (arith, x.size, y.size))
+      let c = fine.sized.words in
+      table_is (word_count ws) m (lo_at ws) (hi_at ws) c (omega (arith, room, x.size, y.size))
       (λ i h. y.rest i (omega arith) ∙ x.low i h) (λ i h. y.rest (i + 32) (omega arith) ∙ x.high i h)
 
-  pub call_ready : Ready ws bs m
-  call_ready = record {
-    sized = given.sized;
-    problem = given.problem;
-    room = omega (arith, given.room, x.size, y.size);
-    table = rw loaded_table given.problem.table;
-  }
+  pub call_tabled : Tabled ws m
+  call_tabled = record { room = omega (arith, room, x.size, y.size); table = rw loaded_table fine.problem.table }
 
   pub call_listed : Listed bs m (rule_count bs)
-  call_listed = all_listed bs y (omega (arith, given.sized.rules, given.room, x.size, y.size))
+  call_listed = all_listed bs y (omega (arith, fine.sized.rules, room, x.size, y.size))
+
+  pub call_left : {n : List ℕ} {r : Bool} → Settled ws bs (rule_count bs) m n r → Left ws bs k n r
+  call_left s = record { answer = rw (loaded_table, all_chosen bs y) at s.answer; size = s.outside.size ∙ y.size ∙ x.size }
 
 -- ---- after
 
@@ -121,42 +121,35 @@ put_bounds_lem l ws most room = record {
     same : word_count (put_bounds (word_count ws) l ws) ≡ word_count ws
     same = ap (λ n. n / stride) (put_length (word_count ws) l ws)
 
-module _ {ws bs k l m n p : List ℕ} (given : Taken tighten_work (length k) ws bs) (x : Loaded (word_count ws) ws k l) (y : Numbered (rule_count bs) l m)
-    (z : Cleared n p) where
-  -- the memory that is cleared is as long as the one that was lent
-  kept : length n ≡ length m → Cleared k p
-  kept e = record { size = z.size ∙ e ∙ y.size ∙ x.size; zeros = z.zeros }
-
-  pub call_tight : Settled ws bs (rule_count bs) m n true → TightenEnds ws bs k true (put_bounds (word_count ws) n ws) p
-  call_tight s =
-      ended_tight (rw (loaded_table given x y, all_chosen bs y) at s.answer)
-      (put_bounds_lem n ws given.sized.words (omega (arith, given.room, x.size, y.size, s.outside.size))) (kept s.outside.size)
-
-  pub call_conflict : Settled ws bs (rule_count bs) m n false → TightenEnds ws bs k false ws p
-  call_conflict s = ended_conflict (rw (loaded_table given x y, all_chosen bs y) at s.answer) (kept s.outside.size)
-
 -- ---- the answer
 
-abbrev pub answer_of : Bool → Answer
-answer_of true = answer.Tight
-answer_of false = answer.Conflict
-
 module _ {ws bs l : List ℕ} where
-  pub short_refused : length l < tighten_work → Tightening ws bs l (answer.Refused 1 0) ws l
+  pub short_refused : length l < tighten_work → Tightening ws bs l (Err Size) ws l
   unfolding tighten_refusal
   short_refused h = refused (first_short tighten_work (length l) 0 0 (refusal ws bs) h)
 
-  pub problem_refused : {n p : ℕ} → tighten_work ≤ length l → refusal ws bs ≡ Refused n p → Tightening ws bs l (answer.Refused n p) ws l
+  pub problem_refused : {r : Refusal} → tighten_work ≤ length l → refusal ws bs ≡ Err r → Tightening ws bs l (Err r) ws l
   unfolding tighten_refusal
   problem_refused h e = refused (roomy tighten_work (length l) 0 0 (refusal ws bs) h (omega arith) ∙ e)
 
-  pub ended_answer : {vs m : List ℕ} {r : Bool} → tighten_work ≤ length l → refusal ws bs ≡ Ok → TightenEnds ws bs l r vs m
-      → Tightening ws bs l (answer_of r) vs m
+module _ (ws bs l : List ℕ) (room : tighten_work ≤ length l) (passed : refusal ws bs ≡ Ok tt) {m n : List ℕ} (c : Cleared m n) where
+  given : tighten_refusal ws bs l ≡ Ok tt
   unfolding tighten_refusal
-  ended_answer h e (ended_tight x b c) = tight (roomy tighten_work (length l) 0 0 (refusal ws bs) h (omega arith) ∙ e) x b c
-  ended_answer h e (ended_conflict x c) = conflict (roomy tighten_work (length l) 0 0 (refusal ws bs) h (omega arith) ∙ e) x c
+  given = roomy tighten_work (length l) 0 0 (refusal ws bs) room (omega arith) ∙ passed
+
+  -- the memory that is cleared is as long as the one that was lent
+  kept : length m ≡ length l → Cleared l n
+  kept e = record { size = c.size ∙ e; zeros = c.zeros }
+
+  pub conflict_answer : Left ws bs l m false → Tightening ws bs l (Ok answer.Conflict) ws n
+  conflict_answer x = answered given (conflict x.answer (kept x.size))
+
+  pub tight_answer : Left ws bs l m true → Tightening ws bs l (Ok answer.Tight) (put_bounds (word_count ws) m ws) n
+  tight_answer x =
+      answered given
+      (tight x.answer (put_bounds_lem m ws (proper_fine ws bs passed).sized.words (omega (arith, room, x.size))) (kept x.size))
 
 -- a problem that is not refused has sizes that fit
-pub here_sized : (ws bs l : List ℕ) → tighten_refusal ws bs l ≡ Ok → Sized ws bs
+pub here_sized : (ws bs l : List ℕ) → tighten_refusal ws bs l ≡ Ok tt → Sized ws bs
 unfolding tighten_refusal
 here_sized ws bs l e = (taken tighten_work (length l) ws bs e).sized

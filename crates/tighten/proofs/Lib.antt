@@ -2,6 +2,7 @@ pub mod Memory
 pub mod Stepping
 pub mod Meeting
 pub mod Applying
+pub mod Given
 pub mod Ready
 pub mod Sweeping
 pub mod Buffers

@@ -12,9 +12,11 @@ use Rattle.rules.specs.Tight.{Tight}
 use Rattle.rules.proofs.OneWidest.{one_widest, not_both}
 use Rattle.problem.specs.Lent.{stride, width_at, lo_at, hi_at, widths_of, table_of, rules_of}
 use Rattle.problem.proofs.Lents.{width_at_lem, lo_at_lem, hi_at_lem}
+use Rattle.std.specs.Prelude.{Result, Ok}
+use Rattle.checker.specs.declared.refusal.Refusal.{Refusal}
 use Rattle.tighten.specs.declared.Answer.{Answer}
 use Rattle.tighten.specs.Memory.{Cleared}
-use Rattle.tighten.specs.Promise.{WithBounds, Tightening, refused, tight, conflict}
+use Rattle.tighten.specs.Promise.{WithBounds, TightenEnds, tight, conflict, Tightening, refused, answered}
 use Rattle.tighten.proofs.Calling.{here_sized}
 
 pub cleared_once : {l m n : List ℕ} → Cleared l m → Cleared l n → m ≡ n
@@ -53,18 +55,22 @@ bounds_once {ws} {us} {vs} whole e x y = ext_get_or 0 us vs (x.size ∙ sym y.si
         rw s at (high (j / stride))
     go j (suc (suc (suc r))) q = absurd (omega arith)
 
-pub tighten_once : {ws bs l : List ℕ} {x y : Answer} {us vs m n : List ℕ} → Tightening ws bs l x us m → Tightening ws bs l y vs n
+ends_once : {ws bs l : List ℕ} {x y : Answer} {us vs m n : List ℕ} → length ws % stride ≡ 0 → TightenEnds ws bs l x us m → TightenEnds ws bs l y vs n
     → (x ≡ y) × (us ≡ vs) × (m ≡ n)
-tighten_once (refused a) (refused b) = (cc, refl, refl)
-tighten_once (refused a) (tight b w v c) = absurd (refused_not_ok a b)
-tighten_once (refused a) (conflict b w c) = absurd (refused_not_ok a b)
-tighten_once (tight a w v c) (refused b) = absurd (refused_not_ok b a)
-tighten_once {ws} {bs} {l} (tight {u = u} a w v c) (tight {u = u'} b w' v' c') = (
+ends_once {ws} {bs} {l} whole (tight {u = u} w v c) (tight {u = u'} w' v' c') = (
   refl,
-  bounds_once (here_sized ws bs l a).whole_words (one_widest (Tight (widths_of ws) (rules_of bs)) (table_of ws) u u' w w') v v',
+  bounds_once whole (one_widest (Tight (widths_of ws) (rules_of bs)) (table_of ws) u u' w w') v v',
   cleared_once c c',
 )
-tighten_once {ws} {bs} (tight a w v c) (conflict b w' c') = absurd (not_both (Tight (widths_of ws) (rules_of bs)) w w')
-tighten_once (conflict a w c) (refused b) = absurd (refused_not_ok b a)
-tighten_once {ws} {bs} (conflict a w c) (tight b w' v' c') = absurd (not_both (Tight (widths_of ws) (rules_of bs)) w' w)
-tighten_once (conflict a w c) (conflict b w' c') = (refl, refl, cleared_once c c')
+ends_once {ws} {bs} whole (tight w v c) (conflict w' c') = absurd (not_both (Tight (widths_of ws) (rules_of bs)) w w')
+ends_once {ws} {bs} whole (conflict w c) (tight w' v' c') = absurd (not_both (Tight (widths_of ws) (rules_of bs)) w' w)
+ends_once whole (conflict w c) (conflict w' c') = (refl, refl, cleared_once c c')
+
+pub tighten_once : {ws bs l : List ℕ} {x y : Result Answer Refusal} {us vs m n : List ℕ} → Tightening ws bs l x us m → Tightening ws bs l y vs n
+    → (x ≡ y) × (us ≡ vs) × (m ≡ n)
+tighten_once (refused a) (refused b) = (cc, refl, refl)
+tighten_once (refused a) (answered b x) = absurd (refused_not_ok a b)
+tighten_once (answered a x) (refused b) = absurd (refused_not_ok b a)
+tighten_once {ws} {bs} {l} (answered a x) (answered b y) =
+    let (e, f, g) = ends_once (here_sized ws bs l a).whole_words x y in
+    (ap (λ z. Ok z) e, f, g)

@@ -1,44 +1,45 @@
 -- A rule of a ready problem: its words are there, its narrowing may be asked for, and that narrowing is one over the table in memory.
 use mathlib.Core.Path.{◌≡◌, sym, ap, subst, fun_ext}
-use mathlib.Core.Bool.{false}
+use mathlib.Core.Bool.{Bool}
 use mathlib.Core.List.{List}
 use Prim.Native.Nat.{ℕ, ◌≤◌, ◌<◌}
 use native.Mathlib.Omega.{arith}
+use Rattle.std.proofs.Common.{Option, None, Some}
 use lib.ListN.{length}
 use Rattle.problem.proofs.Readings.{shape_read, words_below}
 use Rattle.lists.specs.Lists.{at}
-use Rattle.rules.specs.Kinds.{Place, R, A, B, S}
-use Rattle.problem.specs.Places.{lo_of, hi_of, shape_of, span_of}
+use Rattle.rules.specs.Kinds.{Place, R, A, B, S, kind_of}
+use Rattle.problem.specs.Places.{Bounds, Widths, lo_of, hi_of, shape_of, span_of}
 use Rattle.rules.specs.Fits.{Legal}
 use Rattle.rules.specs.Tight.{Rule, word, shape, span}
 use Rattle.rules.specs.ProperProblem.{KindNumber, ProperRule}
 use Rattle.rules.proofs.ProperRules.{rule_legal}
 use Rattle.rules.proofs.Propers.{proper_inside}
-use Rattle.problem.specs.declared.Bounds.{Bounds}
-use Rattle.hull.specs.declared.Narrowed.{Narrowed}
-use Rattle.problem.specs.declared.Widths.{Widths}
-use Rattle.hull.specs.Narrowing.{Narrows}
+use Rattle.problem.specs.declared.kinds.Kind as kinds
+use Rattle.problem.specs.Named.{kind_named}
+use Rattle.hull.specs.Narrowing.{Leaves, Narrows}
 use Rattle.problem.specs.Lent.{word_count, width_at, widths_of, rule_count, rule_at}
 use Rattle.lists.proofs.Series.{length_series}
 use Rattle.problem.proofs.Lents.{rule_at_lem}
 use Rattle.tighten.specs.Memory.{table_in}
-use Rattle.tighten.specs.declared.Met.{Met}
 use Rattle.problem.specs.declared.Fields.{Fields}
-use Rattle.tighten.specs.Meeting.{State, work_bounds, met_all}
+use Rattle.tighten.specs.Meeting.{State, untouched, work_bounds, met_all}
 use Rattle.problem.specs.Reading.{fields_at, widths_at, rule_of}
-use Rattle.tighten.specs.Ready.{Ready, Applied}
-use Rattle.tighten.proofs.Memory.{low_at, high_at}
-use Rattle.tighten.proofs.Applying.{applied_stepped, applied_outside}
+use Rattle.tighten.specs.Ready.{Applied}
+use Rattle.tighten.proofs.Given.{Ready}
+use Rattle.tighten.proofs.Memory.{low_at, high_at, outside_refl}
+use Rattle.tighten.proofs.Applying.{unfit_stepped, applied_stepped, applied_outside}
 
 module _ {ws bs l : List ℕ} (ready : Ready ws bs l) (j : ℕ) (listed : j < rule_count bs) where
   proper : ProperRule (widths_of ws) (rule_at bs j)
-  proper = rw (rule_at_lem bs j listed) at (ready.problem.each j (rw length_series listed))
+  proper = rw (rule_at_lem bs j listed) at (ready.fine.problem.each j (rw length_series listed))
 
   pub below : (p : Place) → word (rule_at bs j) p < word_count ws
   below p = rw (length_series (word_count ws) (width_at ws)) at (words_below proper p)
 
-  shape_same : shape_of (fields_at bs j).kind (fields_at bs j).k (widths_at ws (fields_at bs j)) ≡ shape (widths_of ws) (rule_at bs j)
-  shape_same = shape_read ws bs ready.sized.whole_words j
+  module _ (κ : kinds.Kind) (named : kind_named κ ≡ kind_of (fields_at bs j).kind) where
+    shape_same : shape_of κ (fields_at bs j).k (widths_at ws (fields_at bs j)) ≡ shape (widths_of ws) (rule_at bs j)
+    shape_same = shape_read ws bs ready.fine.sized.whole_words j κ named
 
   span_same : span_of (work_bounds l (fields_at bs j)) ≡ span (table_in (word_count ws) l) (rule_at bs j)
   unfolding fields_at
@@ -56,17 +57,21 @@ module _ {ws bs l : List ℕ} (ready : Ready ws bs l) (j : ℕ) (listed : j < ru
       high B = sym (high_at (word_count ws) l (rule_at bs j).b (below B))
       high S = sym (high_at (word_count ws) l (rule_at bs j).s (below S))
 
-  -- its narrowing may be asked for
-  pub askable : KindNumber (fields_at bs j).kind
-      × Legal (shape_of (fields_at bs j).kind (fields_at bs j).k (widths_at ws (fields_at bs j))) (span_of (work_bounds l (fields_at bs j)))
+  -- its kind is one of the fourteen
+  pub kind_known : KindNumber (fields_at bs j).kind
   unfolding fields_at
-  askable = (proper.kind, rw (shape_same, span_same) (rule_legal ready.table proper))
+  kind_known = proper.kind
 
-  -- and is one over the table
-  pub narrows : {o : Narrowed}
-      → Narrows (shape_of (fields_at bs j).kind (fields_at bs j).k (widths_at ws (fields_at bs j))) (span_of (work_bounds l (fields_at bs j))) o
-      → Narrows (shape (widths_of ws) (rule_at bs j)) (span (table_in (word_count ws) l) (rule_at bs j)) o
-  narrows h = rw (shape_same, span_same) at h
+  module _ (κ : kinds.Kind) (named : kind_named κ ≡ kind_of (fields_at bs j).kind) where
+    -- its narrowing may be asked for
+    pub askable : Legal (shape_of κ (fields_at bs j).k (widths_at ws (fields_at bs j))) (span_of (work_bounds l (fields_at bs j)))
+    askable = rw (shape_same κ named, span_same) (rule_legal ready.tabled.table proper)
+
+    -- and is one over the table
+    pub narrows : (o : Option Bounds)
+        → Narrows (shape_of κ (fields_at bs j).k (widths_at ws (fields_at bs j))) (span_of (work_bounds l (fields_at bs j))) o
+        → Narrows (shape (widths_of ws) (rule_at bs j)) (span (table_in (word_count ws) l) (rule_at bs j)) o
+    narrows o h = rw (shape_same κ named, span_same) at h
 
 -- ---- the same, of what the code has in its locals
 
@@ -77,24 +82,43 @@ module _ {ws bs l : List ℕ} (ready : Ready ws bs l) (j : ℕ) (listed : j < ru
 
   pub small : (x.r < 32) × (x.a < 32) × (x.b < 32) × (x.s < 32) × (64 ≤ length l)
   small =
-      let c = ready.sized.words in
-      (omega (arith, word_below R), omega (arith, word_below A), omega (arith, word_below B), omega (arith, word_below S), ready.room)
+      let c = ready.fine.sized.words in
+      (omega (arith, word_below R), omega (arith, word_below A), omega (arith, word_below B), omega (arith, word_below S), ready.tabled.room)
 
-  module _ (w : Widths) (t : Bounds) (wide : w ≡ widths_at ws x) (bounds : t ≡ work_bounds l x) where
-    pub asked : KindNumber x.kind × Legal (shape_of x.kind x.k w) (span_of t)
-    asked = rw (wide, bounds, read) (askable ready j listed)
+  pub kind_read : KindNumber x.kind
+  kind_read = rw read (kind_known ready j listed)
 
-    pub applied : (o : Narrowed) → Narrows (shape_of x.kind x.k w) (span_of t) o → (r : Met) (m : List ℕ)
-        → record { met = r; memory = m } ≡ met_all (record { met = record { fit = o.fit; changed = false }; memory = l }) x o.t → Applied ws bs j l m r
+  module _ (κ : kinds.Kind) (named : kind_named κ ≡ kind_of x.kind) (w : Widths) (t : Bounds) (wide : w ≡ widths_at ws x) (bounds : t ≡ work_bounds l x) where
+    named_read : kind_named κ ≡ kind_of (fields_at bs j).kind
+    named_read = rw read at named
+
+    pub asked : Legal (shape_of κ x.k w) (span_of t)
+    asked = rw (wide, bounds, read) (askable ready j listed κ named_read)
+
+    over_table : (o : Option Bounds) → Narrows (shape_of κ x.k w) (span_of t) o
+        → Narrows (shape (widths_of ws) (rule_of x)) (span (table_in (word_count ws) l) (rule_of x)) o
     unfolding fields_at
-    applied o h r m e =
+    over_table o h =
         let same : rule_of x ≡ rule_at bs j = ap rule_of read in
-        let n : Narrows (shape (widths_of ws) (rule_of x)) (span (table_in (word_count ws) l) (rule_of x)) o =
         subst (λ (ρ : Rule). Narrows (shape (widths_of ws) ρ) (span (table_in (word_count ws) l) ρ) o) (sym same)
-        (narrows ready j listed (rw (wide, bounds, read) at h)) in
-        let whole = proper_inside ready.table in
+        (narrows ready j listed κ named_read o (rw (wide, bounds, read) at h))
+
+    -- the narrowing has no fit, or the bounds that it leaves are met
+    pub applied_none : Narrows (shape_of κ x.k w) (span_of t) None → Applied ws bs j l l None
+    unfolding fields_at
+    applied_none h =
+        let same : rule_of x ≡ rule_at bs j = ap rule_of read in
+        record { step = rw (← same) (unfit_stepped (widths_of ws) (word_count ws) l x (over_table None h)); outside = outside_refl (word_count ws) l }
+
+    pub applied_met : (o : Bounds) → Leaves (shape_of κ x.k w) (span_of t) o → (r : Option Bool) (m : List ℕ)
+        → record { met = r; memory = m } ≡ met_all (untouched l) x o → Applied ws bs j l m r
+    unfolding fields_at
+    applied_met o h r m e =
+        let same : rule_of x ≡ rule_at bs j = ap rule_of read in
+        let n = over_table (Some o) h in
+        let whole = proper_inside ready.tabled.table in
         subst (λ (s : State). Applied ws bs j l s.memory s.met) (sym e)
         (record {
-          step = rw (← same) (applied_stepped (widths_of ws) (word_count ws) l x o ready.sized.words ready.room whole word_below n);
-          outside = applied_outside (widths_of ws) (word_count ws) l x o ready.sized.words ready.room whole word_below n;
+          step = rw (← same) (applied_stepped (widths_of ws) (word_count ws) l x o ready.fine.sized.words ready.tabled.room whole word_below n);
+          outside = applied_outside (widths_of ws) (word_count ws) l x o ready.fine.sized.words ready.tabled.room whole word_below n;
         })

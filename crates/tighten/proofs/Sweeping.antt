@@ -6,6 +6,7 @@ use mathlib.Core.List.{List}
 use Prim.Native.Nat.{ℕ, suc, ◌+◌, ◌<◌}
 use native.Mathlib.Numerals.{add-one}
 use native.Mathlib.Omega.{arith}
+use Rattle.std.proofs.Common.{None, Some}
 use native.Mathlib.Decide.{ℕ_discrete}
 use lib.ListN.{length}
 use Rattle.words.specs.Table.{Table}
@@ -13,16 +14,16 @@ use Rattle.lists.specs.Lists.{at, series}
 use Rattle.rules.specs.Tight.{rule, none_rule, TightAt, Tight}
 use Rattle.rules.specs.Tightening.{Conflict}
 use Rattle.rules.proofs.Propers.{proper_inside, proper_narrower}
-use Rattle.rules.proofs.Held.{Held, held_start, held_trans, held_tight, held_conflict}
+use Rattle.rules.proofs.Held.{Held, held_trans, held_tight, held_conflict}
 use Rattle.problem.specs.Lent.{word_count, widths_of, rule_count, rule_at, rules_of}
 use Rattle.lists.proofs.Series.{length_series, series_at}
 use Rattle.problem.proofs.Lents.{rule_at_lem}
-use Rattle.tighten.specs.declared.Met.{Met}
 use Rattle.tighten.specs.Memory.{table_in, chosen, Outside}
 use Rattle.tighten.specs.Stepping.{Stepped}
-use Rattle.tighten.specs.Ready.{Ready, Applied, Listed, Swept, Settled}
-use Rattle.tighten.proofs.Memory.{outside_refl, outside_trans}
-use Rattle.tighten.proofs.Stepping.{true_false, stepped_start, stepped_none, stepped_then, stepped_same}
+use Rattle.tighten.proofs.Given.{Ready}
+use Rattle.tighten.specs.Ready.{Applied, Listed, Swept, Settled}
+use Rattle.tighten.proofs.Memory.{outside_trans}
+use Rattle.tighten.proofs.Stepping.{true_false, none_some, stepped_none, stepped_then, stepped_same}
 
 -- a table is tight for the first j rules listed in memory
 pub record TightBelow (w bs l : List ℕ) (j : ℕ) (s : Table) : Type 0 where
@@ -54,70 +55,55 @@ module _ {bs l : List ℕ} {c : ℕ} (listed : Listed bs l c) where
   all_tight : {w : List ℕ} (s : Table) → Tight w (chosen (rules_of bs) l c) s → TightBelow w bs l c s
   all_tight s x = record { each = λ k h. rw (rule_chosen k h) at (x.each k (rw length_chosen h)) }
 
--- an answer whose fit is known
-fit_is : {b : Bool} (r : Met) → r.fit ≡ b → r ≡ record { fit = b; changed = r.changed }
-fit_is r e = λ i. record { fit = e i; changed = r.changed }
-
 -- a step without a fit, of which nothing else is said
-stepped_lost : {P : Table → Type 0} {n : ℕ} {t u : Table} → Conflict P t → Stepped P n t u (record { fit = false; changed = false })
+stepped_lost : {P : Table → Type 0} {n : ℕ} {t u : Table} → Conflict P t → Stepped P n t u None
 stepped_lost c = record {
   none = λ e. c;
   inside = λ e. absurd (true_false (sym e));
   all = λ e. absurd (true_false (sym e));
-  same = λ e. absurd (true_false (sym e));
-  tight = λ e. absurd (true_false (sym e));
-  less = λ e. absurd (true_false (sym e));
+  same = λ e. absurd (none_some e);
+  tight = λ e. absurd (none_some e);
+  less = λ e. absurd (none_some e);
 }
 
 -- ---- one sweep: before rule j, from memory l to m
 
 pub record Passing (ws bs : List ℕ) (l m : List ℕ) (changed : Bool) (j : ℕ) : Type 0 where
-  pub step :
-      Stepped (TightBelow (widths_of ws) bs l j) (word_count ws) (table_in (word_count ws) l) (table_in (word_count ws) m)
-      (record { fit = true; changed = changed })
+  pub step : Stepped (TightBelow (widths_of ws) bs l j) (word_count ws) (table_in (word_count ws) l) (table_in (word_count ws) m) (Some changed)
   pub outside : Outside (word_count ws) l m
 
 module _ {ws bs l : List ℕ} (ready : Ready ws bs l) where
-  pub passing_start : Passing ws bs l l false 0
-  passing_start = record {
-    step = stepped_start (proper_inside ready.table) (record { each = λ k h. absurd (omega arith) });
-    outside = outside_refl (word_count ws) l;
-  }
-
   module _ {m : List ℕ} {changed : Bool} {j c : ℕ} (x : Passing ws bs l m changed j) (listed : Listed bs l c) (less : j < c) where
     pub still_ready : Ready ws bs m
     still_ready = record {
-      sized = ready.sized;
-      problem = ready.problem;
-      room = omega (arith, ready.room, x.outside.size);
-      table = proper_narrower ready.table (x.step.inside refl);
+      fine = ready.fine;
+      tabled = record { room = omega (arith, ready.tabled.room, x.outside.size); table = proper_narrower ready.tabled.table (x.step.inside refl) };
     }
 
     still_listed : at m (64 + j) ≡ at l (64 + j)
-    still_listed = x.outside.rest (64 + j) (omega (arith, ready.sized.words)) (inr (omega (arith, ready.sized.words)))
+    still_listed = x.outside.rest (64 + j) (omega (arith, ready.fine.sized.words)) (inr (omega (arith, ready.fine.sized.words)))
 
     pub next_listed : at m (64 + j) < rule_count bs
     next_listed = rw still_listed (listed.each j less)
 
-    pub passing_none : {n : List ℕ} (r : Met) → Applied ws bs (at m (64 + j)) m n r → r.fit ≡ false
-        → Swept ws bs c l n (record { fit = false; changed = false })
-    passing_none r y e =
-        let none = stepped_none (proper_inside ready.table) x.step (rw (still_listed, fit_is r e) at y.step) in
+    pub passing_none : {n : List ℕ} → Applied ws bs (at m (64 + j)) m n None → Swept ws bs c l n None
+    passing_none y =
+        let none = stepped_none (proper_inside ready.tabled.table) x.step (rw still_listed at y.step) in
         record {
           step = stepped_lost (record { nothing = λ s h. none.nothing s (tight_last (record { each = λ k q. (all_tight listed s h).each k (omega arith) })) });
           outside = outside_trans x.outside y.outside;
         }
 
-    pub passing_step : {n : List ℕ} (r : Met) → Applied ws bs (at m (64 + j)) m n r → r.fit ≡ true → Passing ws bs l n (changed || r.changed) (j + 1)
-    passing_step r y e = rw (add-one j) (record {
+    pub passing_step : {n : List ℕ} {d : Bool} → Applied ws bs (at m (64 + j)) m n (Some d) → Passing ws bs l n (changed || d) (j + 1)
+    passing_step y = rw (add-one j) (record {
       step =
           stepped_same (λ s. tight_next) (λ s. tight_last)
-          (stepped_then (proper_inside ready.table) x.step (rw (still_listed, fit_is r e) at y.step));
+          (stepped_then (proper_inside ready.tabled.table) x.step (rw still_listed at y.step));
       outside = outside_trans x.outside y.outside;
     })
 
   pub passing_end : {m : List ℕ} {changed : Bool} {c : ℕ} → Listed bs l c → Passing ws bs l m changed c
-      → Swept ws bs c l m (record { fit = true; changed = changed })
+      → Swept ws bs c l m (Some changed)
   passing_end listed x = record { step = stepped_same (tight_all listed) (all_tight listed) x.step; outside = x.outside }
 
 -- ---- sweeps until nothing changes: from memory l to m
@@ -127,20 +113,15 @@ pub record Settling (ws bs l m : List ℕ) (c : ℕ) : Type 0 where
   pub outside : Outside (word_count ws) l m
 
 module _ {ws bs l : List ℕ} (ready : Ready ws bs l) {c : ℕ} (listed : Listed bs l c) where
-  pub settling_start : Settling ws bs l l c
-  settling_start = record { held = held_start (proper_inside ready.table); outside = outside_refl (word_count ws) l }
-
   module _ {m : List ℕ} (x : Settling ws bs l m c) where
     pub settling_ready : Ready ws bs m
     settling_ready = record {
-      sized = ready.sized;
-      problem = ready.problem;
-      room = omega (arith, ready.room, x.outside.size);
-      table = proper_narrower ready.table x.held.inside;
+      fine = ready.fine;
+      tabled = record { room = omega (arith, ready.tabled.room, x.outside.size); table = proper_narrower ready.tabled.table x.held.inside };
     }
 
     still : (j : ℕ) → at m (64 + j) ≡ at l (64 + j)
-    still j = x.outside.rest (64 + j) (omega (arith, ready.sized.words)) (inr (omega (arith, ready.sized.words)))
+    still j = x.outside.rest (64 + j) (omega (arith, ready.fine.sized.words)) (inr (omega (arith, ready.fine.sized.words)))
 
     pub settling_listed : Listed bs m c
     settling_listed = record { room = omega (arith, listed.room, x.outside.size); each = λ j h. rw (still j) (listed.each j h) }
@@ -150,21 +131,21 @@ module _ {ws bs l : List ℕ} (ready : Ready ws bs l) {c : ℕ} (listed : Listed
     unfolding chosen
     same_chosen = ap (series c) (fun_ext (λ j. ap (rule (rules_of bs)) (still j)))
 
-    module _ {n : List ℕ} (r : Met) (y : Swept ws bs c m n r) where
-      pub settling_none : r.fit ≡ false → Settled ws bs c l n false
-      settling_none e = record {
-        answer = held_conflict x.held (rw same_chosen at (y.step.none e));
-        outside = outside_trans x.outside y.outside;
-      }
+    pub settling_none : {n : List ℕ} → Swept ws bs c m n None → Settled ws bs c l n false
+    settling_none y = record {
+      answer = held_conflict x.held (rw same_chosen at (y.step.none refl));
+      outside = outside_trans x.outside y.outside;
+    }
 
-      step_held : r.fit ≡ true → Held (Tight (widths_of ws) (chosen (rules_of bs) l c)) (table_in (word_count ws) l) (table_in (word_count ws) n)
-      step_held e = held_trans x.held (record { inside = y.step.inside e; all = λ s h. y.step.all e s (rw same_chosen h) })
+    module _ {n : List ℕ} {d : Bool} (y : Swept ws bs c m n (Some d)) where
+      step_held : Held (Tight (widths_of ws) (chosen (rules_of bs) l c)) (table_in (word_count ws) l) (table_in (word_count ws) n)
+      step_held = held_trans x.held (record { inside = y.step.inside refl; all = λ s h. y.step.all refl s (rw same_chosen h) })
 
-      pub settling_step : r.fit ≡ true → Settling ws bs l n c
-      settling_step e = record { held = step_held e; outside = outside_trans x.outside y.outside }
+      pub settling_step : Settling ws bs l n c
+      settling_step = record { held = step_held; outside = outside_trans x.outside y.outside }
 
-      pub settling_end : r.fit ≡ true → r.changed ≡ false → Settled ws bs c l n true
-      settling_end e d = record {
-        answer = held_tight (step_held e) (rw (y.step.same e d) (rw same_chosen at (y.step.tight e d)));
-        outside = outside_trans x.outside y.outside;
-      }
+    pub settling_end : {n : List ℕ} → Swept ws bs c m n (Some false) → Settled ws bs c l n true
+    settling_end y = record {
+      answer = held_tight (step_held y) (rw (y.step.same refl) (rw same_chosen at (y.step.tight refl)));
+      outside = outside_trans x.outside y.outside;
+    }

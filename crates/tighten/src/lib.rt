@@ -5,99 +5,74 @@
 pub mod buffer;
 mod rule;
 
-ghost use Rattle.std.specs.Prelude.{length};
-ghost use Rattle.checker.specs.Promise.{Taken};
-ghost use Rattle.tighten.specs.Promise.{tighten_work, TightenEnds, Tightening};
-ghost use Rattle.tighten.specs.Ready.{Ready, Listed, Swept, Settled};
+ghost use Rattle.std.specs.Prelude.{◌≤◌, length};
+ghost use Rattle.tighten.specs.Promise.{tighten_work, Tightening};
+ghost use Rattle.tighten.specs.Ready.{Tabled, Listed, Swept, Settled, Left};
 
-// What meeting bounds has come to: whether there may still be a fit, and whether a bound changed.
-#[derive(Clone, Copy)]
-pub struct Met {
-    pub fit: bool,
-    pub changed: bool,
-}
+use checker::{Proper, Refusal};
 
-// The rules that are listed, each applied once, until one has no fit.
-fn sweep(work: &mut [u64], words: &[u64], rules: &[u8], count: usize) -> Met
-    requires { Ready words.now rules.now work.old × Listed rules.now work.old count }
-    ensures { Swept words.now rules.now count work.old work.new result }
+// The rules that are listed, each applied once, until one has no fit: whether a bound changed; none where there is no fit.
+fn sweep(work: &mut [u64], problem: &Proper<'_>, count: usize) -> Option<bool>
+    requires { Tabled problem.now.words.now work.old × Listed problem.now.rules.now work.old count }
+    ensures { Swept problem.now.words.now problem.now.rules.now count work.old work.new result }
 {
     let mut changed = false;
-    let mut j = 0;
-    while j < count {
-        let n = work[64 + j] as usize;
-        let x = rule::apply(work, words, rules, n);
-        if !x.fit {
-            return Met {
-                fit: false,
-                changed: false,
-            };
-        }
-        changed = changed | x.changed;
-        j += 1;
+    for j in 0..count {
+        let n = work[buffer::LIST + j] as usize;
+        changed |= rule::apply(work, problem, n)?;
     }
-    Met { fit: true, changed }
+    Some(changed)
 }
 
 // The rules that are listed, applied until none changes a bound: whether a tight table is left, which then stands in memory.
-pub fn settle(work: &mut [u64], words: &[u64], rules: &[u8], count: usize) -> bool
-    requires { Ready words.now rules.now work.old × Listed rules.now work.old count }
-    ensures { Settled words.now rules.now count work.old work.new result }
+pub fn settle(work: &mut [u64], problem: &Proper<'_>, count: usize) -> bool
+    requires { Tabled problem.now.words.now work.old × Listed problem.now.rules.now work.old count }
+    ensures { Settled problem.now.words.now problem.now.rules.now count work.old work.new result }
 {
     loop {
-        let m = sweep(work, words, rules, count);
-        if !m.fit {
-            return false;
-        }
-        if !m.changed {
-            return true;
+        match sweep(work, problem, count) {
+            None => return false,
+            Some(false) => return true,
+            Some(true) => {}
         }
     }
 }
 
-// The answer: the bounds of the words are those of the widest tight table; there is none; or the number of the first refusal, and its place.
-#[derive(Clone, Copy)]
+// What comes of a proper problem: the bounds of the words are those of the widest tight table; or there is none.
+#[derive(Clone, Copy, Debug, PartialEq, Eq)]
 pub enum Answer {
     Tight,
     Conflict,
-    Refused(u64, u64),
 }
 
 // The numbers of work memory that tightening needs.
 const WORK: usize = 320;
 
-// The table in memory tightened for all rules, its bounds put into words where a tight one is left, and the memory cleared.
-fn tighten_proper(words: &mut [u64], rules: &[u8], work: &mut [u64]) -> bool
-    requires { Taken tighten_work (length work.old) words.old rules.now }
-    ensures { TightenEnds words.old rules.now work.old result words.new work.new }
+// The table of a problem put into memory and tightened for all its rules: whether a tight one is left, which then stands there.
+fn tightened(work: &mut [u64], problem: &Proper<'_>) -> bool
+    requires { tighten_work ≤ length work.old }
+    ensures { Left problem.now.words.now problem.now.rules.now work.old work.new result }
 {
-    let n = words.len() / problem::STRIDE;
-    let c = rules.len() / problem::FIELDS;
-    buffer::load(work, words, n);
-    buffer::list_all(work, c);
-    if settle(work, words, rules, c) {
-        buffer::unload(words, work, n);
-        buffer::clear(work);
-        return true;
-    }
-    buffer::clear(work);
-    false
+    let count = problem.rule_count();
+    buffer::load(work, problem.words);
+    buffer::list_all(work, count);
+    settle(work, problem, count)
 }
 
 // Tightens a problem's table. TIGHT: the bounds in words are those of the widest tight table, the widths stay. CONFLICT: there is none, and words stay as they
 // were. Work memory of at least 320 numbers is lent, and is all 0 after both; a refusal alters nothing.
-pub fn tighten(words: &mut [u64], rules: &[u8], work: &mut [u64]) -> Answer
+pub fn tighten(words: &mut [u64], rules: &[u8], work: &mut [u64]) -> Result<Answer, Refusal>
     ensures { Tightening words.old rules.now work.old result words.new work.new }
 {
     if work.len() < WORK {
-        return Answer::Refused(checker::SIZE, 0);
+        return Err(Refusal::Size);
     }
-    let x = checker::first_refusal(words, rules);
-    if let checker::Checked::Refused(number, place) = x {
-        return Answer::Refused(number, place);
+    let problem = Proper::new(words, rules)?;
+    if !tightened(work, &problem) {
+        buffer::clear(work);
+        return Ok(Answer::Conflict);
     }
-    if tighten_proper(words, rules, work) {
-        return Answer::Tight;
-    }
-    Answer::Conflict
+    buffer::unload(words, work);
+    buffer::clear(work);
+    Ok(Answer::Tight)
 }

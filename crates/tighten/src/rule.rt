@@ -1,80 +1,68 @@
 // One rule applied to the table in work memory.
 ghost use Rattle.std.specs.Prelude.{◌≡◌, ◌+◌, ◌*◌, ◌<◌, ◌≤◌, length};
 ghost use Rattle.problem.specs.Lent.{rule_count};
-ghost use Rattle.tighten.specs.Meeting.{met_by, met_all, work_bounds};
-ghost use Rattle.tighten.specs.Ready.{Ready, Applied};
+ghost use Rattle.tighten.specs.Meeting.{met_by, met_all, untouched, work_pair, work_bounds};
+ghost use Rattle.tighten.specs.Ready.{Tabled, Applied};
 
-use crate::Met;
-use problem::{Bounds, Fields};
+use crate::buffer::HIGH;
+use checker::Proper;
+use problem::kinds::{Kind, Place};
+use problem::{Bounds, Fields, Span};
+
+// The bounds of word i.
+fn span_at(work: &[u64], i: usize) -> Span
+    requires { (i < 32) × (64 ≤ length work.now) }
+    ensures { result ≡ work_pair work.now i }
+{
+    Span {
+        lo: work[i],
+        hi: work[i + HIGH],
+    }
+}
 
 // The bounds of the words that stand at a rule's places.
 fn bounds_at(work: &[u64], x: Fields) -> Bounds
     requires { (x.r < 32) × (x.a < 32) × (x.b < 32) × (x.s < 32) × (64 ≤ length work.now) }
     ensures { result ≡ work_bounds work.now x }
 {
-    let r = x.r;
-    let a = x.a;
-    let b = x.b;
-    let s = x.s;
-    Bounds {
-        rl: work[r],
-        rh: work[r + 32],
-        al: work[a],
-        ah: work[a + 32],
-        bl: work[b],
-        bh: work[b + 32],
-        sl: work[s],
-        sh: work[s + 32],
-    }
+    x.words().map(|word| span_at(work, usize::from(word)))
 }
 
-// The bounds of word i met with l and h. Where the low bound then leaves the high one there is no fit; then, as after an earlier one, nothing is stored.
-fn meet(work: &mut [u64], m: Met, i: usize, l: u64, h: u64) -> Met
+// The bounds of word i met with others: whether one of them changed. None, and nothing is stored, where the low bound then leaves the high one.
+fn meet(work: &mut [u64], i: usize, with: Span) -> Option<bool>
     requires { (i < 32) × (64 ≤ length work.old) }
-    ensures { record { met = result; memory = work.new } ≡ met_by (record { met = m; memory = work.old }) i l h }
+    ensures { record { met = result; memory = work.new } ≡ met_by (untouched work.old) i with.lo with.hi }
 {
-    let k = i + 32;
-    let old_lo = work[i];
-    let old_hi = work[k];
-    let lo = old_lo | l;
-    let hi = old_hi & h;
-    if m.fit & (lo & hi == lo) {
-        work[i] = lo;
-        work[k] = hi;
-        return Met {
-            fit: true,
-            changed: m.changed | ((lo != old_lo) | (hi != old_hi)),
-        };
-    }
-    Met {
-        fit: false,
-        changed: false,
-    }
+    let old = span_at(work, i);
+    let met = old.meet(with)?;
+    work[i] = met.lo;
+    work[i + HIGH] = met.hi;
+    Some(met != old)
 }
 
-// The bounds at all places of a rule met, each with its own.
-fn meet_all(work: &mut [u64], m: Met, x: Fields, t: Bounds) -> Met
+// The bounds at all places of a rule met, each with its own, until there is no fit.
+fn meet_all(work: &mut [u64], x: Fields, t: Bounds) -> Option<bool>
     requires { (x.r < 32) × (x.a < 32) × (x.b < 32) × (x.s < 32) × (64 ≤ length work.old) }
-    ensures { record { met = result; memory = work.new } ≡ met_all (record { met = m; memory = work.old }) x t }
+    ensures { record { met = result; memory = work.new } ≡ met_all (untouched work.old) x t }
 {
-    let r = meet(work, m, x.r, t.rl, t.rh);
-    let a = meet(work, r, x.a, t.al, t.ah);
-    let b = meet(work, a, x.b, t.bl, t.bh);
-    meet(work, b, x.s, t.sl, t.sh)
+    let r = meet(work, x.word(Place::R), t.r)?;
+    let a = meet(work, x.word(Place::A), t.a)?;
+    let b = meet(work, x.word(Place::B), t.b)?;
+    let s = meet(work, x.word(Place::S), t.s)?;
+    Some(r | a | b | s)
 }
 
-// Rule j applied: the bounds of its words are met with what its narrowing leaves.
-pub fn apply(work: &mut [u64], words: &[u64], rules: &[u8], j: usize) -> Met
-    requires { Ready words.now rules.now work.old × (j < rule_count rules.now) }
-    ensures { Applied words.now rules.now j work.old work.new result }
+// Rule j applied: the bounds of its words are met with what its narrowing leaves. Whether one of them changed; none where there is no fit.
+pub fn apply(work: &mut [u64], problem: &Proper<'_>, j: usize) -> Option<bool>
+    requires { Tabled problem.now.words.now work.old × (j < rule_count problem.now.rules.now) }
+    ensures { Applied problem.now.words.now problem.now.rules.now j work.old work.new result }
 {
-    let x = problem::fields_of(rules, j);
-    let w = problem::widths_of(words, x);
+    let x = problem::fields_of(problem.rules, j);
+    let w = problem::widths_of(problem.words, x);
     let t = bounds_at(work, x);
-    let o = hull::narrow(x.kind, x.k, w, t);
-    let m = Met {
-        fit: o.fit,
-        changed: false,
+    let Ok(kind) = Kind::try_from(x.kind) else {
+        unreachable!()
     };
-    meet_all(work, m, x, o.t)
+    let left = hull::narrow(kind, u64::from(x.k), w, t)?;
+    meet_all(work, x, left)
 }

@@ -1,4 +1,3 @@
 pub mod Undoing
 pub mod Keeping
-pub mod Moving
 pub mod Room

@@ -36,9 +36,6 @@ pub record GoingBack (b e : ℕ) (l : List ℕ) (j : ℕ) (m : List ℕ) : Type 
   pub frame : CopyOnly l m
   pub copy : (i : ℕ) → i < 64 → undone l b (j - b) (copied m) i ≡ undone l b (e - b) (copied l) i
 
-pub going_start : (b e : ℕ) (l : List ℕ) → GoingBack b e l e l
-going_start b e l = record { frame = record { size = refl; rest = λ i h. refl }; copy = λ i h. refl }
-
 pub going_step : {b e : ℕ} {l : List ℕ} {j : ℕ} {m m' : List ℕ} → GoingBack b e l (j + 1) m → b ≤ j → Back m j m' → GoingBack b e l j m'
 going_step {b} {e} {l} {j} {m} {m'} g h k = record {
   frame = record { size = k.frame.size ∙ g.frame.size; rest = λ i s. k.frame.rest i s ∙ g.frame.rest i s };

@@ -6,6 +6,11 @@ ghost use Rattle.std.specs.Prelude.{◌⊎◌, ◌+◌, ◌*◌, ◌<◌, ◌≤
 ghost use Rattle.lists.specs.Lists.{at};
 ghost use Rattle.trail.specs.Trail.{apart, changes, Kept, Committed, Back, RolledBack, Moved};
 
+// A table takes 64 numbers: the low bounds of its words, and from 32 on their high bounds.
+const HIGH: usize = 32;
+
+const TABLE: usize = 64;
+
 // Where the copy and the trail begin.
 pub const COPY: usize = 316;
 
@@ -33,11 +38,9 @@ pub fn commit(work: &mut [u64], n: usize, base: usize) -> usize
     ensures { Committed n base work.old work.new result }
 {
     let mut entries = base;
-    let mut i = 0;
-    while i < n {
+    for i in 0..n {
         entries = keep(work, entries, i);
-        entries = keep(work, entries, i + 32);
-        i += 1;
+        entries = keep(work, entries, i + HIGH);
     }
     entries
 }
@@ -47,10 +50,10 @@ fn put_back(work: &mut [u64], j: usize)
     requires { 380 + 2 * j + 1 < length work.old }
     ensures { Back work.old j work.new }
 {
-    let k = work[TRAIL + 2 * j];
+    let k = work[TRAIL + 2 * j] as usize;
     let old = work[TRAIL + 2 * j + 1];
-    if k < 64 {
-        work[COPY + k as usize] = old;
+    if k < TABLE {
+        work[COPY + k] = old;
     }
 }
 
@@ -59,9 +62,7 @@ pub fn rollback(work: &mut [u64], base: usize, entries: usize)
     requires { (base ≤ entries) × (380 + 2 * entries ≤ length work.old) }
     ensures { RolledBack base entries work.old work.new }
 {
-    let mut j = entries;
-    while base < j {
-        j -= 1;
+    for j in (base..entries).rev() {
         put_back(work, j);
     }
 }
@@ -71,10 +72,6 @@ pub fn copy_table(work: &mut [u64], n: usize, from: usize, to: usize)
     requires { (n ≤ 32) × (from + 64 ≤ length work.old) × (to + 64 ≤ length work.old) × ((from + 64 ≤ to) ⊎ (to + 64 ≤ from)) }
     ensures { Moved n from to work.old work.new }
 {
-    let mut i = 0;
-    while i < n {
-        work[to + i] = work[from + i];
-        work[to + 32 + i] = work[from + 32 + i];
-        i += 1;
-    }
+    work.copy_within(from..from + n, to);
+    work.copy_within(from + HIGH..from + HIGH + n, to + HIGH);
 }

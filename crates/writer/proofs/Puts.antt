@@ -1,44 +1,85 @@
 -- A number's bytes, a rule and the check of a block, put down.
-use mathlib.Core.Path.{◌≡◌, sym, ap, ◌∙◌}
-use mathlib.Core.List.{List, ◌∷◌, ◌++◌}
-use Prim.Native.Nat.{ℕ, suc, ◌+◌, ◌*◌, ◌/◌, ◌%◌, ◌<◌, ◌≤◌, ◌-◌}
+use mathlib.Core.Path.{◌≡◌, refl, sym, ap, ◌∙◌}
+use mathlib.Core.List.{List, [], ◌∷◌, ◌++◌}
+use Prim.Native.Nat.{ℕ, ◌+◌, ◌*◌, ◌/◌, ◌%◌, ◌<◌, ◌≤◌, ◌-◌}
 use native.Mathlib.Nat.{add-zero}
-use native.Mathlib.Numerals.{add-one}
 use native.Mathlib.Omega.{arith}
-use lib.ListN.{length, take, drop, set, length-append, get_or-append}
-use lib.Seq.{drop-cons, get_or-append-add}
-use Rattle.lists.specs.Lists.{at, part, put, zeros}
-use Rattle.problem.specs.Lent.{rule_at}
+use lib.ListN.{length, take, drop, set, replicate, length-append, length-take, length-drop, length-set, length-replicate, get_or-append}
+use lib.Seq.{drop-drop, set_split, get_or-append-add}
+use borrow.Rule.Slice.PartMut.{put_mid}
+use Rattle.std.specs.Int.{w16, w32, w64, to_le_bytes}
+use Rattle.lists.specs.Lists.{at, part, put, zeros, flat}
+use Rattle.problem.specs.Lent.{width_at, rule_at}
 use Rattle.blocks.specs.Bytes.{le}
-use Rattle.blocks.specs.Records.{rule_record}
+use Rattle.blocks.specs.Records.{word_record, rule_record}
 use Rattle.blocks.specs.Block.{sum}
 use Rattle.blocks.specs.Written.{seal}
 use Rattle.lists.proofs.Parts.{at_part, length_part}
 use Rattle.lists.proofs.Pieces.{at_zeros, length_zeros}
-use Rattle.blocks.proofs.Numbers.{length_le}
 use Rattle.lists.proofs.Puts.{put_put}
-use Rattle.blocks.proofs.Items.{rule_item}
+use Rattle.blocks.proofs.Numbers.{length_le}
+use Rattle.blocks.proofs.Items.{word_items, rule_item}
 
--- ---- the bytes of a number, of which y is left after i of them
+-- ---- a part lent and given back
 
-pub le_start : (k x : ℕ) → le (k - 0) x ≡ le k x
-le_start k x = let z : k - 0 ≡ k = omega arith in rw z
+-- it is put
+pub part_put : (f ys : List ℕ) (a e k : ℕ) → e ≡ a + k → length ys ≡ k → put_mid a (e - a) f ys ≡ put f a ys
+part_put f ys a e k q h = let z : e - a ≡ k = omega arith in rw (z, h, drop-drop) refl
 
-left : (k i x y : ℕ) → i < k → le (k - i) y ≡ drop i (le k x) → le (suc (k - (i + 1))) y ≡ at (le k x) i ∷ drop (suc i) (le k x)
-left k i x y h e =
-    let z : k - i ≡ suc (k - (i + 1)) = omega arith in
-    ap (λ n. le n y) (sym z) ∙ e ∙ drop-cons (le k x) i 0 (rw length_le h)
+pub zeros_put : (f ys : List ℕ) (a k : ℕ) → a + k ≤ length f → ys ≡ replicate (length (take (a + k - a) (drop a f))) 0
+    → put_mid a (a + k - a) f ys ≡ put f a (zeros k)
+unfolding zeros
+zeros_put f ys a k room e =
+    let n : length (take (a + k - a) (drop a f)) ≡ k = simp (length-take, length-drop) (omega arith) in
+    let y : ys ≡ replicate k 0 = e ∙ ap (λ j. replicate j 0) n in
+    part_put f ys a (a + k) k refl (ap length y ∙ length-replicate k 0) ∙ ap (put f a) y
 
-pub le_low : (k i x y : ℕ) → i < k → le (k - i) y ≡ drop i (le k x) → y % 256 ≡ at (le k x) i
+-- ---- the bytes of a number
+
+pub four_bytes : (x : ℕ) → to_le_bytes w32 x ≡ le 4 x
 unfolding le
-le_low k i x y h e = let t = left k i x y h e in cc
+four_bytes x =
+    let e2 : x / 256 / 256 ≡ x / 65536 = omega arith in
+    let e3 : x / 65536 / 256 ≡ x / 16777216 = omega arith in
+    rw (e2, e3) refl
 
-pub le_high : (k i x y : ℕ) → i < k → le (k - i) y ≡ drop i (le k x) → le (k - (i + 1)) (y / 256) ≡ drop (i + 1) (le k x)
+pub eight_bytes : (x : ℕ) → to_le_bytes w64 x ≡ le 8 x
 unfolding le
-le_high k i x y h e =
-    let t = left k i x y h e in
-    let a = add-one i in
-    cc
+eight_bytes x =
+    let e2 : x / 256 / 256 ≡ x / 65536 = omega arith in
+    let e3 : x / 65536 / 256 ≡ x / 16777216 = omega arith in
+    let e4 : x / 16777216 / 256 ≡ x / 4294967296 = omega arith in
+    let e5 : x / 4294967296 / 256 ≡ x / 1099511627776 = omega arith in
+    let e6 : x / 1099511627776 / 256 ≡ x / 281474976710656 = omega arith in
+    let e7 : x / 281474976710656 / 256 ≡ x / 72057594037927936 = omega arith in
+    rw (e2, e3, e4, e5, e6, e7) refl
+
+-- ---- a word
+
+-- its three numbers put
+pub word_put : (f f₁ f₂ f₃ r₁ r₂ r₃ ws : List ℕ) (a j : ℕ) → a + 24 ≤ length f → width_at ws j < 256 → r₁ ≡ to_le_bytes w64 (at ws (3 * j))
+    → r₂ ≡ to_le_bytes w64 (at ws (3 * j + 1)) → r₃ ≡ to_le_bytes w64 (at ws (3 * j + 2)) → f₁ ≡ put f a r₁ → f₂ ≡ put f₁ (a + 8) r₂
+    → f₃ ≡ put f₂ (a + 16) r₃ → f₃ ≡ put f a (word_record ws j)
+unfolding flat
+word_put f f₁ f₂ f₃ r₁ r₂ r₃ ws a j room narrow d₁ d₂ d₃ e₁ e₂ e₃ =
+    let x = le 8 (at ws (3 * j)) in
+    let y = le 8 (at ws (3 * j + 1)) in
+    let z = le 8 (at ws (3 * j + 2)) in
+    let n = length_le 8 (at ws (3 * j)) in
+    let m = length_le 8 (at ws (3 * j + 1)) in
+    let k = length_le 8 (at ws (3 * j + 2)) in
+    let l = length-append x y in
+    let p : f₁ ≡ put f a x = e₁ ∙ ap (put f a) (d₁ ∙ eight_bytes (at ws (3 * j))) in
+    let q : f₂ ≡ put f a (x ++ y) =
+    e₂ ∙ ap (put f₁ (a + 8)) (d₂ ∙ eight_bytes (at ws (3 * j + 1))) ∙ ap (λ t. put t (a + 8) y) p ∙ put_put f a (a + 8) x y (omega arith) (omega arith) in
+    e₃
+    ∙ ap (put f₂ (a + 16)) (d₃ ∙ eight_bytes (at ws (3 * j + 2)))
+    ∙ ap (λ t. put t (a + 16) z) q
+    ∙ put_put f a (a + 16) (x ++ y) z (omega arith) (omega arith)
+    ∙ ap (put f a) (three ∙ sym (word_items ws j narrow))
+  where
+    three : (le 8 (at ws (3 * j)) ++ le 8 (at ws (3 * j + 1))) ++ le 8 (at ws (3 * j + 2)) ≡ flat 3 (λ x. le 8 (at ws (3 * j + x)))
+    three = ap (λ y. (le 8 (at ws y) ++ le 8 (at ws (3 * j + 1))) ++ le 8 (at ws (3 * j + 2))) (sym (add-zero (3 * j)))
 
 -- ---- a rule
 
@@ -80,7 +121,20 @@ rule_put f f₁ f₂ bs a n room h e₁ e₂ =
     ∙ put_put f a (a + 6) (part bs (6 * n) 6) (zeros 2) (ap (λ j. a + j) k) (rw m (omega arith))
     ∙ ap (put f a) (rule_bytes bs n h)
 
--- the check stored
-pub sealed : (b c : List ℕ) (s : ℕ) → b ≡ c → s ≡ sum b % 65536 → set (set b 6 ((65535 - s) % 256)) 7 ((65535 - s) / 256) ≡ seal c
+-- ---- the check
+
+-- two bytes
+two_put : (b : List ℕ) (u v : ℕ) → length b ≡ 512 → set (set b 6 u) 7 v ≡ put b 6 (u ∷ v ∷ [])
+two_put b u v n =
+    set_split (set b 6 u) 7 v (simp length-set (omega arith))
+    ∙ ap (λ t. put t 7 (v ∷ [])) (set_split b 6 u (omega arith))
+    ∙ put_put b 6 7 (u ∷ []) (v ∷ []) refl (omega arith)
+
+pub sealed : (b c r : List ℕ) (s : ℕ) → b ≡ c → s ≡ sum b % 65536 → length b ≡ 512 → r ≡ put b 6 (to_le_bytes w16 (65535 - s)) → r ≡ seal c
 unfolding seal
-sealed b c s e h = rw (h, e)
+sealed b c r s e h n q =
+    let high : (65535 - s) / 256 % 256 ≡ (65535 - s) / 256 = omega arith in
+    let two : put b 6 (to_le_bytes w16 (65535 - s)) ≡ set (set b 6 ((65535 - s) % 256)) 7 ((65535 - s) / 256) =
+    rw high (sym (two_put b ((65535 - s) % 256) ((65535 - s) / 256) n)) in
+    let same : set (set b 6 ((65535 - s) % 256)) 7 ((65535 - s) / 256) ≡ seal c = rw (h, e) refl in
+    q ∙ two ∙ same

@@ -1,44 +1,21 @@
-// Bytes put down: numbers, zeros, a block's header, and its end with the check.
+// Bytes put down: bytes lent, zeros, a block's header, and its end with the check.
 ghost use Rattle.std.specs.Prelude.{◌≡◌, [], ◌+◌, ◌≤◌, ◌-◌, length};
-ghost use Rattle.blocks.specs.Bytes.{le};
 ghost use Rattle.lists.specs.Lists.{put, zeros};
 ghost use Rattle.blocks.specs.Edition.{edition1};
 ghost use Rattle.blocks.specs.Written.{seal, headed};
-
-// The k lowest bytes of x, the lowest first.
-pub fn put_number(b: &mut [u8], at: usize, k: usize, x: u64)
-    requires { at + k ≤ length b.old }
-    ensures { b.new ≡ put b.old at (le k x) }
-{
-    let mut y = x;
-    let mut i = 0;
-    while i < k {
-        b[at + i] = (y % 256) as u8;
-        y = y / 256;
-        i += 1;
-    }
-}
 
 pub fn put_zeros(b: &mut [u8], at: usize, k: usize)
     requires { at + k ≤ length b.old }
     ensures { b.new ≡ put b.old at (zeros k) }
 {
-    let mut i = 0;
-    while i < k {
-        b[at + i] = 0;
-        i += 1;
-    }
+    b[at..at + k].fill(0);
 }
 
 pub fn put_bytes(b: &mut [u8], at: usize, xs: &[u8])
     requires { at + length xs.now ≤ length b.old }
     ensures { b.new ≡ put b.old at xs.now }
 {
-    let mut i = 0;
-    while i < xs.len() {
-        b[at + i] = xs[i];
-        i += 1;
-    }
+    b[at..at + xs.len()].copy_from_slice(xs);
 }
 
 // A block's header: kind, edition, number, count, and no check yet.
@@ -66,6 +43,5 @@ pub fn finish(b: &mut [u8], at: usize)
 {
     put_zeros(b, at, 512 - at);
     let s = 65535 - blocks::sum_of(b);
-    b[6] = (s % 256) as u8;
-    b[7] = (s / 256) as u8;
+    put_bytes(b, 6, &s.to_le_bytes());
 }

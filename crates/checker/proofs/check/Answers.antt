@@ -1,12 +1,12 @@
 use mathlib.Core.Path.{sym, ◌∙◌}
-use Rattle.checker.proofs.Answers.{refused_problem, refused_limit, ok_limit}
+use Rattle.checker.proofs.Handed.{handed_on}
+use Rattle.checker.proofs.Answers.{refused_problem, with_limit}
 use Rattle.checker.proofs.check.Goals as goal
 
-pub returns-in-Refused : goal.returns-in-Refused
-returns-in-Refused c = refused_problem _ _ _ (sym c.first_refusal-x.ensures ∙ c.in-Refused.is)
-
-pub returns-then-limit-gt-GUESSES : goal.returns-then-limit-gt-GUESSES
-returns-then-limit-gt-GUESSES c = refused_limit _ _ _ (sym c.first_refusal-x.ensures ∙ c.in_default.is) c.if-limit-gt-GUESSES.true
+pub returns-in_err-first_refusal : goal.returns-in_err-first_refusal
+returns-in_err-first_refusal c =
+    handed_on c.from_residual.result c.from_residual.ensures.1
+    ∙ refused_problem _ _ _ (sym c.in_err-first_refusal.ensures)
 
 pub returns : goal.returns
-returns c = ok_limit _ _ _ (sym c.first_refusal-x.ensures ∙ c.in_default.is) c.if-limit-gt-GUESSES.false
+returns c = with_limit _ _ _ (sym c.in_ok-first_refusal.ensures) c.limit_refusal.ensures

@@ -1,19 +1,16 @@
-use mathlib.Core.Path.{sym, ◌∙◌}
+use Rattle.checker.proofs.Handed.{handed_on}
 use Rattle.explain.proofs.Calling.{short_refused, problem_refused, problem_judged}
-use Rattle.checker.proofs.Rooms.{problem_taken}
 use Rattle.explain.proofs.explain.Goals as goal
 
 pub returns-then-list-lt-ENTRIES : goal.returns-then-list-lt-ENTRIES
 returns-then-list-lt-ENTRIES c = short_refused _ _ _ _ _ _ c.if-list-lt-ENTRIES.true
 
-pub returns-in-Refused : goal.returns-in-Refused
-returns-in-Refused c =
-    problem_refused _ _ _ _ _ _ c.if-list-lt-ENTRIES.false (sym c.first_refusal-x.ensures ∙ c.in-Refused.is)
-
-pub explain_proper-requires : goal.explain_proper-requires
-explain_proper-requires c =
-    problem_taken _ _ c.if-list-lt-ENTRIES.false (sym c.first_refusal-x.ensures ∙ c.in_default.is)
+pub returns-in_err-problem : goal.returns-in_err-problem
+returns-in_err-problem c =
+    rw (handed_on c.from_residual.result c.from_residual.ensures.1)
+    (problem_refused _ _ _ _ _ _ c.if-list-lt-ENTRIES.false c.in_err-problem.ensures)
 
 pub returns : goal.returns
 returns c =
-    problem_judged _ _ _ _ _ _ c.if-list-lt-ENTRIES.false (sym c.first_refusal-x.ensures ∙ c.in_default.is) c.explain_proper.ensures
+    let (words, rules, passed) = c.in_ok-problem.ensures in
+    problem_judged _ _ _ _ _ _ c.if-list-lt-ENTRIES.false passed (rw (words, rules) at c.explain_proper.ensures)

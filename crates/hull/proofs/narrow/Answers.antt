@@ -1,68 +1,54 @@
-use Rattle.std.proofs.Common.{◌∙◌, arith}
-use Rattle.rules.specs.Kinds.{kind_of}
-use Rattle.hull.proofs.AllKinds.{told, told_kind, r_width, a_width, b_width, columns_told}
+use Rattle.std.proofs.Common.{◌∙◌}
+use Rattle.hull.proofs.AllKinds.{told, r_width, a_width, b_width, columns_told}
 use Rattle.hull.proofs.narrow.Goals as goal
 
-pub slice-requires : goal.slice-requires
-slice-requires c =
-    r_width c.args.kind c.args.k c.args.w c.args.t c.requires.1 (omega arith)
+pub invariant_of-shift : goal.invariant_of-shift
+invariant_of-shift c = record { width = r_width c.args.kind c.args.k c.args.w c.args.t c.requires (rw c.in-Copy.is tt) }
 
-pub invert-requires : goal.invert-requires
-invert-requires c =
-    r_width c.args.kind c.args.k c.args.w c.args.t c.requires.1 (omega arith)
+pub invariant_of-invert : goal.invariant_of-invert
+invariant_of-invert c = record { width = r_width c.args.kind c.args.k c.args.w c.args.t c.requires (rw c.in-Not.is tt) }
 
-pub slice-requires-in-8 : goal.slice-requires-in-8
-slice-requires-in-8 c =
-    r_width c.args.kind c.args.k c.args.w c.args.t c.requires.1 (omega arith)
+pub invariant_of-shift-in-Slice : goal.invariant_of-shift-in-Slice
+invariant_of-shift-in-Slice c = record { width = r_width c.args.kind c.args.k c.args.w c.args.t c.requires (rw c.in-Slice.is tt) }
 
-pub join-requires : goal.join-requires
-join-requires c =
-    b_width c.args.kind c.args.k c.args.w c.args.t c.requires.1 c.in-9.is
+pub invariant_of-join : goal.invariant_of-join
+invariant_of-join c = record { width = b_width c.args.kind c.args.k c.args.w c.args.t c.requires (rw c.in-Join.is tt) }
 
-pub shl-requires : goal.shl-requires
-shl-requires c =
-    r_width c.args.kind c.args.k c.args.w c.args.t c.requires.1 (omega arith)
+pub invariant_of-shift-in-Shl : goal.invariant_of-shift-in-Shl
+invariant_of-shift-in-Shl c = record { width = r_width c.args.kind c.args.k c.args.w c.args.t c.requires (rw c.in-Shl.is tt) }
 
-pub slice-requires-in-11 : goal.slice-requires-in-11
-slice-requires-in-11 c =
-    r_width c.args.kind c.args.k c.args.w c.args.t c.requires.1 (omega arith)
+pub invariant_of-shift-in-Shr : goal.invariant_of-shift-in-Shr
+invariant_of-shift-in-Shr c = record { width = r_width c.args.kind c.args.k c.args.w c.args.t c.requires (rw c.in-Shr.is tt) }
 
-pub columns-requires : goal.columns-requires
-columns-requires c =
-    (c.requires.0, a_width c.args.kind c.args.k c.args.w c.args.t c.requires.1)
+pub invariant_of-columns : goal.invariant_of-columns
+invariant_of-columns c = record { width = a_width c.args.kind c.args.k c.args.w c.args.t c.requires }
 
-pub returns-in-1 : goal.returns-in-1
-unfolding kind_of
-returns-in-1 c =
-    told_kind c.args.kind c.args.k c.args.w c.args.t c.requires.1 1 _ c.in-1.is c.slice.ensures
+pub returns-in-Copy : goal.returns-in-Copy
+returns-in-Copy c =
+    told c.args.kind c.args.k c.args.w c.args.t c.requires _ (rw c.in-Copy.is c.shift.ensures)
 
-pub returns-in-2 : goal.returns-in-2
-unfolding kind_of
-returns-in-2 c =
-    told_kind c.args.kind c.args.k c.args.w c.args.t c.requires.1 2 _ c.in-2.is c.invert.ensures
+pub returns-in-Not : goal.returns-in-Not
+returns-in-Not c =
+    told c.args.kind c.args.k c.args.w c.args.t c.requires _ (rw c.in-Not.is c.invert.ensures)
 
-pub returns-in-8 : goal.returns-in-8
-unfolding kind_of
-returns-in-8 c =
-    told_kind c.args.kind c.args.k c.args.w c.args.t c.requires.1 8 _ c.in-8.is c.slice-in-8.ensures
+pub returns-in-Slice : goal.returns-in-Slice
+returns-in-Slice c =
+    told c.args.kind c.args.k c.args.w c.args.t c.requires _ (rw c.in-Slice.is c.shift-in-Slice.ensures)
 
-pub returns-in-9 : goal.returns-in-9
-unfolding kind_of
-returns-in-9 c =
-    told_kind c.args.kind c.args.k c.args.w c.args.t c.requires.1 9 _ c.in-9.is c.join.ensures
+pub returns-in-Join : goal.returns-in-Join
+returns-in-Join c =
+    told c.args.kind c.args.k c.args.w c.args.t c.requires _ (rw c.in-Join.is c.join.ensures)
 
-pub returns-in-10 : goal.returns-in-10
-unfolding kind_of
-returns-in-10 c =
-    told_kind c.args.kind c.args.k c.args.w c.args.t c.requires.1 10 _ c.in-10.is c.shl.ensures
+pub returns-in-Shl : goal.returns-in-Shl
+returns-in-Shl c =
+    told c.args.kind c.args.k c.args.w c.args.t c.requires _ (rw c.in-Shl.is c.shift-in-Shl.ensures)
 
-pub returns-in-11 : goal.returns-in-11
-unfolding kind_of
-returns-in-11 c =
-    told_kind c.args.kind c.args.k c.args.w c.args.t c.requires.1 11 _ c.in-11.is c.slice-in-11.ensures
+pub returns-in-Shr : goal.returns-in-Shr
+returns-in-Shr c =
+    told c.args.kind c.args.k c.args.w c.args.t c.requires _ (rw c.in-Shr.is c.shift-in-Shr.ensures)
 
 pub returns-in_default : goal.returns-in_default
 returns-in_default c =
-    let d = c.in_default.in_default-own.rest in
-    told c.args.kind c.args.k c.args.w c.args.t c.requires.1 _
-    (c.columns.ensures ∙ columns_told c.args.kind c.args.k c.args.w c.args.t c.requires.0 d.0.0.0.0.0.1 d.0.0.0.0.1 d.0.0.0.1 d.0.0.1 d.0.1 d.1)
+    let d = c.in_default in
+    told c.args.kind c.args.k c.args.w c.args.t c.requires _
+    (c.columns.ensures ∙ columns_told c.args.kind c.args.k c.args.w c.args.t d.not-Copy d.not-Not d.not-Slice d.not-Join d.not-Shl d.not-Shr)

@@ -1,15 +1,16 @@
 use native.Mathlib.Omega.{arith}
+use Rattle.checker.proofs.Handed.{handed_on}
 use Rattle.blocks.proofs.WriteBack.{proper_room}
 use Rattle.reader.proofs.Keeps.{kept_refused, kept_ok}
 use Rattle.reader.proofs.keep.Goals as goal
 
-pub judge-j-requires : goal.judge-j-requires
-judge-j-requires c =
+pub judge-requires : goal.judge-requires
+judge-requires c =
     (c.requires.1.few, c.requires.1.many, proper_room c.requires.1)
 
-pub returns-in-Refused : goal.returns-in-Refused
-returns-in-Refused c =
-    kept_refused c.requires.0 c.requires.1 c.judge-j.ensures c.in-Refused.is
+pub returns-in_err-judge : goal.returns-in_err-judge
+returns-in_err-judge c =
+    rw (handed_on c.from_residual.result c.from_residual.ensures.1) (kept_refused c.requires.0 c.requires.1 c.judge.ensures c.in_err-judge.was)
 
 pub store_words-requires : goal.store_words-requires
 store_words-requires c =
@@ -21,5 +22,4 @@ store_rules-requires c =
 
 pub returns : goal.returns
 returns c =
-    kept_ok c.requires.0 c.requires.1 c.judge-j.ensures c.in_default.is c.store_words.ensures
-    c.store_rules.ensures
+    kept_ok c.requires.0 c.requires.1 c.judge.ensures c.in_ok-judge.was c.store_words.ensures c.store_rules.ensures

@@ -1,7 +1,6 @@
-use mathlib.Core.Path.{subst}
 use native.Mathlib.Omega.{arith}
-use Rattle.reader.specs.Scans.{Scanned}
-use Rattle.reader.proofs.Keeps.{scan_refused, too_short, of_whole}
+use Rattle.checker.proofs.Handed.{handed_on}
+use Rattle.reader.proofs.Keeps.{scan_refused, too_short}
 use Rattle.reader.proofs.read.Goals as goal
 
 pub returns-then-words-lt32 : goal.returns-then-words-lt32
@@ -10,10 +9,6 @@ returns-then-words-lt32 c = too_short (λ r. omega (arith, r.words))
 pub returns-then-rules-lt252 : goal.returns-then-rules-lt252
 returns-then-rules-lt252 c = too_short (λ r. omega (arith, r.rules))
 
-pub keep-requires : goal.keep-requires
-keep-requires c =
-    (record { words = omega arith; rules = omega arith }, of_whole (subst (Scanned _) c.in-Whole.is c.scan_file-s.ensures))
-
-pub returns-in-Refused : goal.returns-in-Refused
-returns-in-Refused c =
-    scan_refused (record { words = omega arith; rules = omega arith }) (subst (Scanned _) c.in-Refused.is c.scan_file-s.ensures)
+pub returns-in_err-x : goal.returns-in_err-x
+returns-in_err-x c =
+    rw (handed_on c.from_residual.result c.from_residual.ensures.1) (scan_refused (record { words = omega arith; rules = omega arith }) c.in_err-x.ensures)

@@ -5,4 +5,4 @@ use Rattle.search.proofs.+search.Given as goal
 
 -- the number that falls: the open bits of the table in memory
 abbrev pub decreases-search : goal.decreases-search
-decreases-search l = open_below (word_count l.words.now) (table_in (word_count l.words.now) l.work.now)
+decreases-search l = open_below (word_count l.task.now.problem.words.now) (table_in (word_count l.task.now.problem.words.now) l.work.now)

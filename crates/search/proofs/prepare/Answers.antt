@@ -1,34 +1,41 @@
 use native.Mathlib.Omega.{arith}
-use borrow.Author.Tests.{not-true, not-false}
+use Rattle.checker.proofs.Right.{proper_fine}
 use Rattle.search.proofs.Preparing.{prepared_none, prepared_found, prepared_stopped, commit_room, commit_fixable, prepared_guess}
 use Rattle.search.proofs.prepare.Goals as goal
 
+pub open_word-requires : goal.open_word-requires
+open_word-requires c =
+    let fine = proper_fine _ _ c.args.task.now.problem.fine in
+    (omega (arith, fine.sized.words, c.word_count-n.ensures), omega (arith, c.requires.tabled.room, c.if-not-settle.ensures.outside.size))
+
 pub returns-then-not-settle : goal.returns-then-not-settle
-returns-then-not-settle c =
-    prepared_none c.requires c.settle.result (not-true c.settle.result c.if-not-settle.true-raw) c.settle.ensures
+returns-then-not-settle c = prepared_none (proper_fine _ _ c.args.task.now.problem.fine) c.requires c.if-not-settle.ensures
 
-pub returns-then-word-n : goal.returns-then-word-n
-returns-then-word-n c =
-    let s = rw (not-false c.settle.result c.if-not-settle.false-raw) at c.settle.ensures in
-    prepared_found c.requires s c.open_word-word.ensures c.if-word-n.true
+pub returns-in_default : goal.returns-in_default
+returns-in_default c =
+    prepared_found (proper_fine _ _ c.args.task.now.problem.fine) c.requires c.if-not-settle.ensures (rw c.word_count-n.ensures at c.in_default.ensures)
 
-pub returns-then-used-limit : goal.returns-then-used-limit
-returns-then-used-limit c =
-    let s = rw (not-false c.settle.result c.if-not-settle.false-raw) at c.settle.ensures in
-    prepared_stopped c.requires s c.open_word-word.ensures c.if-word-n.false c.if-used-limit.true
+pub returns-then-used-task : goal.returns-then-used-task
+returns-then-used-task c =
+    prepared_stopped (proper_fine _ _ c.args.task.now.problem.fine) c.requires c.if-not-settle.ensures (rw c.word_count-n.ensures at c.in-Some.ensures)
+    c.if-used-task.true
 
 pub commit-entries-requires : goal.commit-entries-requires
 commit-entries-requires c =
-    let s = rw (not-false c.settle.result c.if-not-settle.false-raw) at c.settle.ensures in
-    (c.requires.ready.sized.words, omega (arith, c.requires.room, s.outside.size), commit_room c.requires s)
+    let fine = proper_fine _ _ c.args.task.now.problem.fine in
+    let s = c.if-not-settle.ensures in
+    let n = c.word_count-n.ensures in
+    (omega (arith, n, fine.sized.words), omega (arith, c.requires.room, s.outside.size), rw n (commit_room fine c.requires s))
 
 pub fix_first-requires : goal.fix_first-requires
 fix_first-requires c =
-    let s = rw (not-false c.settle.result c.if-not-settle.false-raw) at c.settle.ensures in
-    commit_fixable c.requires s c.open_word-word.ensures c.if-word-n.false c.commit-entries.ensures
+    let n = c.word_count-n.ensures in
+    commit_fixable (proper_fine _ _ c.args.task.now.problem.fine) c.requires c.if-not-settle.ensures (rw n at c.in-Some.ensures)
+    (rw n at c.commit-entries.ensures)
 
 pub returns : goal.returns
 returns c =
-    let s = rw (not-false c.settle.result c.if-not-settle.false-raw) at c.settle.ensures in
-    let g = prepared_guess c.requires s c.open_word-word.ensures c.if-word-n.false c.commit-entries.ensures c.if-used-limit.false in
-    rw c.fix_first.ensures g
+    let n = c.word_count-n.ensures in
+    rw c.fix_first.ensures
+    (prepared_guess (proper_fine _ _ c.args.task.now.problem.fine) c.requires c.if-not-settle.ensures (rw n at c.in-Some.ensures)
+    (rw n at c.commit-entries.ensures) c.if-used-task.false)

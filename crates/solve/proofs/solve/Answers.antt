@@ -1,5 +1,7 @@
-use mathlib.Core.Path.{sym, ◌∙◌}
+use mathlib.Core.Path.{sym}
 use native.Mathlib.Omega.{arith}
+use Rattle.checker.proofs.Answers.{refused_problem, with_limit}
+use Rattle.checker.proofs.Handed.{handed_on}
 use Rattle.solve.proofs.Calling.{short_work, short_model, problem_refused, nothing_refused}
 use Rattle.solve.proofs.solve.Goals as goal
 
@@ -9,11 +11,22 @@ returns-then-work-lt-WORK c = short_work _ _ _ _ _ c.if-work-lt-WORK.true
 pub returns-then-model-words : goal.returns-then-model-words
 returns-then-model-words c = short_model _ _ _ _ _ (omega (arith, c.if-work-lt-WORK.false)) c.if-model-words.true
 
-pub returns-in-Refused : goal.returns-in-Refused
-returns-in-Refused c =
-    problem_refused _ _ _ _ _ (omega (arith, c.if-work-lt-WORK.false)) (omega (arith, c.if-model-words.false)) (sym c.check-x.ensures ∙ c.in-Refused.is)
+pub returns-in_err-problem : goal.returns-in_err-problem
+returns-in_err-problem c =
+    rw (handed_on c.from_residual.result c.from_residual.ensures.1)
+    (problem_refused _ _ _ _ _ (omega (arith, c.if-work-lt-WORK.false)) (omega (arith, c.if-model-words.false))
+    (sym (refused_problem _ _ _ c.in_err-problem.ensures)))
+
+pub returns-in_err-limit_refusal : goal.returns-in_err-limit_refusal
+returns-in_err-limit_refusal c =
+    let (words, rules, passed) = c.in_ok-problem.ensures in
+    rw (handed_on c.from_residual-in_err-limit_refusal.result c.from_residual-in_err-limit_refusal.ensures.1)
+    (problem_refused _ _ _ _ _ (omega (arith, c.if-work-lt-WORK.false)) (omega (arith, c.if-model-words.false))
+    (sym (with_limit _ _ _ passed c.in_err-limit_refusal.ensures)))
 
 pub solve_proper-requires : goal.solve_proper-requires
 solve_proper-requires c =
-    nothing_refused _ _ _ _ _ (omega (arith, c.if-work-lt-WORK.false)) (omega (arith, c.if-model-words.false))
-    (sym c.check-x.ensures ∙ c.in_default.is)
+    let (words, rules, passed) = c.in_ok-problem.ensures in
+    rw (c.from.ensures, words, rules)
+    (nothing_refused _ _ _ _ _ (omega (arith, c.if-work-lt-WORK.false)) (omega (arith, c.if-model-words.false))
+    (sym (with_limit _ _ _ passed c.in_ok-limit_refusal.ensures)))

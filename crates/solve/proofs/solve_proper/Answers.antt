@@ -4,24 +4,32 @@ use Rattle.solve.proofs.solve_proper.Goals as goal
 
 pub list_all-requires : goal.list_all-requires
 list_all-requires c =
-    (omega (arith, (fine c.requires).sized.rules), omega (arith, (fine c.requires).sized.rules, work_room c.requires))
+    let rules = c.rule_count-rules.ensures in
+    (omega (arith, (fine c.requires).sized.rules, rules), omega (arith, (fine c.requires).sized.rules, rules, work_room c.requires))
 
 pub search_problem-requires : goal.search_problem-requires
 search_problem-requires c =
-    asked c.requires c.list_all.ensures (omega arith)
+    rw c.rule_count-rules.ensures (asked c.requires (rw c.rule_count-rules.ensures at c.list_all.ensures) (omega arith))
 
 pub store-requires : goal.store-requires
-store-requires c =
-    (omega (arith, model_room c.requires), omega (arith, memory_room c.requires c.list_all.ensures c.search_problem.ensures))
+store-requires c = (
+  omega (arith, model_room c.requires),
+  omega
+      (arith, memory_room c.requires (rw c.rule_count-rules.ensures at c.list_all.ensures) (rw c.rule_count-rules.ensures at c.search_problem.ensures)),
+)
 
 pub returns-in-Found : goal.returns-in-Found
 returns-in-Found c =
-    end_found c.requires c.list_all.ensures c.search_problem.ensures (omega arith) c.in-Found.is c.store.ensures c.clear.ensures
+    end_found c.requires (rw c.rule_count-rules.ensures at c.list_all.ensures) (rw c.rule_count-rules.ensures at c.search_problem.ensures) (omega arith)
+    c.in-Found.is
+    (rw c.word_count.ensures at c.store.ensures) c.clear.ensures
 
 pub returns-in-Nothing : goal.returns-in-Nothing
 returns-in-Nothing c =
-    end_none c.requires c.list_all.ensures c.search_problem.ensures (omega arith) c.in-Nothing.is c.clear-in-Nothing.ensures
+    end_none c.requires (rw c.rule_count-rules.ensures at c.list_all.ensures) (rw c.rule_count-rules.ensures at c.search_problem.ensures) (omega arith)
+    c.in-Nothing.is c.clear-in-Nothing.ensures
 
 pub returns-in-GaveUp : goal.returns-in-GaveUp
 returns-in-GaveUp c =
-    end_gave_up c.requires c.list_all.ensures c.search_problem.ensures (omega arith) c.in-GaveUp.is c.clear-in-GaveUp.ensures
+    end_gave_up c.requires (rw c.rule_count-rules.ensures at c.list_all.ensures) (rw c.rule_count-rules.ensures at c.search_problem.ensures) (omega arith)
+    c.in-GaveUp.is c.clear-in-GaveUp.ensures

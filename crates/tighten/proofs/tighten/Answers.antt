@@ -1,23 +1,28 @@
-use mathlib.Core.Path.{sym, ◌∙◌}
-use Rattle.tighten.proofs.Calling.{short_refused, problem_refused, ended_answer}
-use Rattle.checker.proofs.Rooms.{problem_taken}
+use native.Mathlib.Omega.{arith}
+use Rattle.checker.proofs.Handed.{handed_on}
+use Rattle.checker.proofs.Right.{proper_fine}
+use Rattle.tighten.proofs.Calling.{short_refused, problem_refused, conflict_answer, tight_answer}
 use Rattle.tighten.proofs.tighten.Goals as goal
 
 pub returns-then-work-lt-WORK : goal.returns-then-work-lt-WORK
 returns-then-work-lt-WORK c = short_refused c.if-work-lt-WORK.true
 
-pub returns-in-Refused : goal.returns-in-Refused
-returns-in-Refused c =
-    problem_refused c.if-work-lt-WORK.false (sym c.first_refusal-x.ensures ∙ c.in-Refused.is)
+pub returns-in_err-problem : goal.returns-in_err-problem
+returns-in_err-problem c =
+    rw (handed_on c.from_residual.result c.from_residual.ensures.1) (problem_refused c.if-work-lt-WORK.false c.in_err-problem.ensures)
 
-pub tighten_proper-requires : goal.tighten_proper-requires
-tighten_proper-requires c =
-    problem_taken _ _ c.if-work-lt-WORK.false (sym c.first_refusal-x.ensures ∙ c.in_default.is)
+pub unload-requires : goal.unload-requires
+unload-requires c =
+    let (words, rules, passed) = c.in_ok-problem.ensures in
+    ((proper_fine _ _ passed).sized.words, omega (arith, c.if-work-lt-WORK.false, c.tightened.ensures.size))
 
-pub returns-then-tighten_proper : goal.returns-then-tighten_proper
-returns-then-tighten_proper c =
-    ended_answer c.if-work-lt-WORK.false (sym c.first_refusal-x.ensures ∙ c.in_default.is) (rw c.if-tighten_proper.true at c.tighten_proper.ensures)
+pub returns-then-not-tightened : goal.returns-then-not-tightened
+returns-then-not-tightened c =
+    let (words, rules, passed) = c.in_ok-problem.ensures in
+    conflict_answer _ _ _ c.if-work-lt-WORK.false passed c.clear.ensures (rw (words, rules, c.if-not-tightened.true) at c.tightened.ensures)
 
 pub returns : goal.returns
 returns c =
-    ended_answer c.if-work-lt-WORK.false (sym c.first_refusal-x.ensures ∙ c.in_default.is) (rw c.if-tighten_proper.false at c.tighten_proper.ensures)
+    let (words, rules, passed) = c.in_ok-problem.ensures in
+    rw c.unload.ensures
+    (tight_answer _ _ _ c.if-work-lt-WORK.false passed c.clear-2.ensures (rw (words, rules, c.if-not-tightened.false) at c.tightened.ensures))

@@ -3,6 +3,7 @@ use mathlib.Core.List.{List}
 use Rattle.lists.specs.Lists.{at}
 use Prim.Native.Nat.{ℕ, ◌<◌, ◌^◌}
 use borrow.Author.Tests.{not-true, not-false}
+use Rattle.checker.proofs.Handed.{handed_on}
 use Rattle.blocks.specs.Promise.{Writes}
 use Rattle.blocks.specs.Written.{Slices}
 use Rattle.blocks.proofs.Passed.{passed}
@@ -19,17 +20,18 @@ slices u v = record {
 pub returns-then-not-has_room : goal.returns-then-not-has_room
 returns-then-not-has_room c = no_room _ _ _ _ (sym c.has_room.ensures ∙ not-true _ c.if-not-has_room.true-raw)
 
-pub returns-in-Refused : goal.returns-in-Refused
-returns-in-Refused c =
-    Writes.refused (room c.args.limit c.args.words.now c.args.rules.now c.args.file.now (sym c.has_room.ensures ∙ not-false _ c.if-not-has_room.false-raw))
-    (sym c.check-x.ensures ∙ c.in-Refused.is) refl
+pub returns-in_err-check : goal.returns-in_err-check
+returns-in_err-check c =
+    rw (handed_on c.from_residual.result c.from_residual.ensures.1)
+    (Writes.refused (room c.args.limit c.args.words.now c.args.rules.now c.args.file.now (sym c.has_room.ensures ∙ not-false _ c.if-not-has_room.false-raw))
+    (sym c.check.ensures ∙ c.in_err-check.was) refl)
 
 pub write_all-requires : goal.write_all-requires
 write_all-requires c =
-    let fine = passed (slices (λ i. (c.type_inv.words i).fits) (λ i. (c.type_inv.rules i).fits)) (sym c.check-x.ensures ∙ c.in_default.is) in
+    let fine = passed (slices (λ i. (c.type_inv.words i).fits) (λ i. (c.type_inv.rules i).fits)) (sym c.check.ensures ∙ c.in_ok-check.was) in
     (fine, room c.args.limit c.args.words.now c.args.rules.now c.args.file.now (sym c.has_room.ensures ∙ not-false _ c.if-not-has_room.false-raw))
 
 pub returns : goal.returns
 returns c =
     Writes.ok (room c.args.limit c.args.words.now c.args.rules.now c.args.file.now (sym c.has_room.ensures ∙ not-false _ c.if-not-has_room.false-raw))
-    (sym c.check-x.ensures ∙ c.in_default.is) c.write_all.ensures.0 c.write_all.ensures.1
+    (sym c.check.ensures ∙ c.in_ok-check.was) c.write_all.ensures.0 c.write_all.ensures.1

@@ -1,6 +1,6 @@
-use mathlib.Core.Path.{refl}
+use mathlib.Core.Path.{refl, ap}
 use mathlib.Core.List.{List}
-use Prim.Native.Nat.{ℕ, ◌+◌, ◌*◌, ◌/◌, ◌≤◌}
+use Prim.Native.Nat.{ℕ, ◌+◌, ◌*◌, ◌≤◌}
 use native.Mathlib.Omega.{arith}
 use borrow.Author.Rules.{rules}
 use lib.ListN.{length}
@@ -8,6 +8,7 @@ use Rattle.problem.specs.Lent.{word_count, rule_count}
 use Rattle.blocks.specs.Edition.{edition1}
 use Rattle.blocks.specs.Written.{encode, blocks_for, word_blocks, rule_blocks}
 use Rattle.blocks.proofs.ReadBack.{length_encode}
+use Rattle.writer.proofs.Answers.{words_up, rules_up}
 use Rattle.writer.proofs.Wrote.{file_put}
 use Rattle.writer.proofs.write_all.Goals as goal
 
@@ -16,28 +17,29 @@ long : (limit : ℕ) (words rules : List ℕ) {n : ℕ} → length (encode editi
     → 512 * (word_blocks edition1 (word_count words) + rule_blocks edition1 (rule_count rules) + 1) ≤ n
 long limit words rules h = omega (arith, length_encode limit words rules)
 
-pub write_words-requires : goal.write_words-requires
-write_words-requires c =
-    let e = long c.args.limit c.args.words.now c.args.rules.now c.requires.1 in
-    (record { width = c.requires.0.width }, omega arith)
+pub write_blocks-requires : goal.write_blocks-requires
+write_blocks-requires c = (omega arith, omega (arith, long c.args.limit c.args.words.now c.args.rules.now c.requires.1))
 
-pub write_rules-requires : goal.write_rules-requires
+pub write_blocks-requires-2 : goal.write_blocks-requires-2
 unfolding blocks_for
-write_rules-requires c =
-    omega (arith, long c.args.limit c.args.words.now c.args.rules.now c.requires.1, c.requires.0.sized.words, c.requires.0.sized.rules)
+write_blocks-requires-2 c = (
+  omega (arith, words_up _ c.div_ceil-before.ensures, c.requires.0.sized.words),
+  omega (arith, words_up _ c.div_ceil-before.ensures, long c.args.limit c.args.words.now c.args.rules.now c.requires.1),
+)
 
 pub slice_bounds-end_block-end : goal.slice_bounds-end_block-end
-unfolding blocks_for
-slice_bounds-end_block-end c = omega (arith, long c.args.limit c.args.words.now c.args.rules.now c.requires.1)
+slice_bounds-end_block-end c =
+    omega (arith, words_up _ c.div_ceil-before.ensures, rules_up _ c.div_ceil.ensures, long c.args.limit c.args.words.now c.args.rules.now c.requires.1)
 
 pub returns : goal.returns
-unfolding blocks_for
 returns c =
-    let b = (length c.args.words.now / 3 + 20) / 21 in
-    let k = b + (length c.args.rules.now / 6 + 62) / 63 in
+    let b = c.div_ceil-before.result in
+    let k = b + c.div_ceil.result in
+    let p = words_up _ c.div_ceil-before.ensures in
+    let q = rules_up _ c.div_ceil.ensures in
     let n = length_encode c.args.limit c.args.words.now c.args.rules.now in (
       omega arith,
-      file_put c.args.limit c.args.words.now c.args.rules.now c.args.file.now c.write_words.new.file c.write_rules.new.file c.end_block.new.b b k (512 * k)
-          (512 * k + 512) (long c.args.limit c.args.words.now c.args.rules.now c.requires.1) refl refl refl refl
-          c.write_words.ensures c.write_rules.ensures c.end_block.ensures,
+      file_put c.args.limit c.args.words.now c.args.rules.now c.args.file.now c.write_blocks.new.file c.write_blocks-2.new.file c.end_block.new.b b k (512 * k)
+          (512 * k + 512) (long c.args.limit c.args.words.now c.args.rules.now c.requires.1) p (ap (λ x. b + x) q) refl refl
+          c.write_blocks.ensures c.write_blocks-2.ensures c.end_block.ensures,
     )

@@ -1,25 +1,25 @@
-use mathlib.Core.Path.{refl, ◌∙◌}
-use native.Mathlib.Omega.{arith}
-use lib.ListN.{get_or, length-set}
-use Rattle.decimal.proofs.Decimals.{decimal_length}
-use Rattle.decimal.proofs.Puts.{numbers_start, number_turn, numbers_end}
+use Rattle.std.proofs.Common.{refl, ◌∙◌, arith, length-set, take, length-take}
+use Rattle.decimal.proofs.Puts.{spaced_start, spaced_room, spaced_turn, spaced_end}
 use Rattle.decimal.proofs.number.put_all.Goals as goal
 
-pub loop-i-init : goal.loop-i-init
-loop-i-init c = (numbers_start _ _ (omega arith), refl, omega arith, omega arith)
+pub loop-x-init : goal.loop-x-init
+loop-x-init g c = (spaced_start c.args.numbers.now c.requires, refl)
+
+pub bounds-out-e : goal.bounds-out-e
+bounds-out-e g c =
+    omega (arith, spaced_room c.args.numbers.now c.loop-x.invariant.0 c.loop-x-test.true c.x-item.is c.into-n.ensures c.requires c.loop-x.invariant.1)
 
 pub put-e-requires : goal.put-e-requires
-put-e-requires c =
-    simp length-set (omega (arith, c.requires, decimal_length (get_or c.args.numbers.now c.loop-i.i 0)))
+put-e-requires g c =
+    simp length-set (spaced_room c.args.numbers.now c.loop-x.invariant.0 c.loop-x-test.true c.x-item.is c.into-n.ensures c.requires c.loop-x.invariant.1)
 
-pub loop-i-preserved : goal.loop-i-preserved
-loop-i-preserved c = (
-  number_turn c.args.numbers.now c.loop-i.i c.loop-i.invariant.0 (omega (arith, c.requires)) c.put-e.ensures (omega arith),
-  c.put-e.auto.out ∙ simp length-set c.loop-i.invariant.1,
-  omega arith,
-  omega (arith, c.loop-i.invariant.3, c.put-e.ensures.ends, decimal_length (get_or c.args.numbers.now c.loop-i.i 0)),
+pub loop-x-preserved : goal.loop-x-preserved
+loop-x-preserved g c = (
+  spaced_turn c.args.numbers.now c.loop-x.invariant.0 c.loop-x-test.true c.x-item.is c.into-n.ensures c.put-e.ensures
+      (omega (arith, spaced_room c.args.numbers.now c.loop-x.invariant.0 c.loop-x-test.true c.x-item.is c.into-n.ensures c.requires c.loop-x.invariant.1)),
+  c.put-e.auto.out ∙ simp length-set c.loop-x.invariant.1,
 )
 
-pub returns : goal.returns
-returns c =
-    (numbers_end _ _ c.loop-i.invariant.0 c.loop-i-test.false, omega arith)
+pub returns-clause-end : goal.returns-clause-end
+returns-clause-end g c =
+    omega (arith, spaced_end (take c.loop-x.x-index c.args.numbers.now) c.loop-x.invariant.0, length-take c.loop-x.x-index c.args.numbers.now)

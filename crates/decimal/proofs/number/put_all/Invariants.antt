@@ -1,14 +1,6 @@
-use mathlib.Core.Path.{◌≡◌}
-use Prim.Native.Nat.{◌+◌, ◌*◌, ◌≤◌, ◌-◌}
-use lib.ListN.{length, take}
-use Rattle.decimal.specs.Text.{spaced}
-use Rattle.decimal.specs.Putting.{Appended}
+use Rattle.std.proofs.Common.{◌≡◌, take, length}
+use Rattle.decimal.specs.Putting.{Spaced}
 use Rattle.decimal.proofs.number.put_all.Given as goal
 
-abbrev pub invariant-loop-i : goal.invariant-loop-i
-invariant-loop-i l =
-    Appended l.initial.out l.at (spaced (take l.i l.numbers)) l.out l.e × (length l.out ≡ length l.initial.out)
-    × (l.i ≤ length l.numbers) × (l.e ≤ l.at + 21 * l.i)
-
-abbrev pub decreases-loop-i : goal.decreases-loop-i
-decreases-loop-i l = length l.numbers - l.i
+abbrev pub invariant-loop-x : goal.invariant-loop-x
+invariant-loop-x g l = Spaced g.T.Into.converts l.initial.out l.at (take l.x-index l.numbers) l.out l.e × (length l.out ≡ length l.initial.out)

@@ -1,10 +1,7 @@
-use Prim.Native.Nat.{◌-◌}
-use lib.ListN.{length}
+use mathlib.Core.Path.{◌≡◌}
+use Prim.Native.Nat.{◌+◌}
 use Rattle.decimal.proofs.Readings.{Begun}
 use Rattle.decimal.proofs.number.read.Given as goal
 
-abbrev pub invariant-loop-e : goal.invariant-loop-e
-invariant-loop-e l = Begun l.s l.at l.v l.e
-
-abbrev pub decreases-loop-e : goal.decreases-loop-e
-decreases-loop-e l = length l.s - l.e
+abbrev pub invariant-loop-x : goal.invariant-loop-x
+invariant-loop-x l = Begun l.s l.at l.v l.e × (l.e ≡ l.at + 1 + l.x-index)

@@ -1,13 +1,10 @@
-use Rattle.explain.proofs.Answers.{narrow_asked, narrow_said, compared_stays}
+use Rattle.std.proofs.Common.{◌≡◌, ◌≢◌, rules, true, false}
+use Rattle.explain.proofs.Answers.{narrow_said, compared, compared_stays}
 use Rattle.explain.proofs.saying.stays.Goals as goal
-
-pub narrow-requires : goal.narrow-requires
-narrow-requires c = narrow_asked c.requires
-
-pub said_by-requires : goal.said_by-requires
-said_by-requires c = c.requires.small
 
 pub returns : goal.returns
 returns c =
-    let h = narrow_said c.args.q c.narrow.ensures c.requires.used in
-    compared_stays (rw c.said_by.ensures h) c.is_same.ensures
+    let same : c.eq.result ≡ true → c.said_by.result ≡ c.args.x = λ h. search rules in
+    let other : c.eq.result ≡ false → c.said_by.result ≢ c.args.x = λ h e. search rules in
+    let h = narrow_said c.args.q _ c.narrow.ensures c.requires.used in
+    compared_stays (rw c.said_by.ensures h) (compared c.args.x c.said_by.result c.eq.result same other)

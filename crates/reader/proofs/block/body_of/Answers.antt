@@ -1,12 +1,12 @@
 use mathlib.Core.Path.{◌≡◌, sym, ◌∙◌}
 use mathlib.Core.List.{List}
 use Prim.Native.Nat.{ℕ}
-use borrow.Author.Tests.{not-true, not-false}
+use native.Mathlib.Omega.{arith}
+use Rattle.std.proofs.lemmas.Bool.{ne_eqb}
 use Rattle.lists.specs.Lists.{at}
 use Rattle.blocks.specs.Block.{sixteen, Sound}
-use Rattle.lists.proofs.Deciding.{decided, refuted}
-use Rattle.reader.proofs.Loading.{four_fit}
-use Rattle.reader.proofs.Parse.{Head, is_words, is_rules, is_end, no_edition, no_number, no_kind, no_words, no_rules, no_end}
+use Rattle.reader.proofs.Parse.{Head, words_told, rules_told, end_told, no_end, no_edition, no_number, no_kind}
+use Rattle.reader.proofs.block.body_of.Goals.{then-c-eq0, else-c-eq0}
 use Rattle.reader.proofs.block.body_of.Goals as goal
 
 -- what the header says, once the number is tested
@@ -20,42 +20,29 @@ head sound edition read number = record {
 pub returns-then-b-ne1 : goal.returns-then-b-ne1
 returns-then-b-ne1 c = no_edition c.if-b-ne1.true
 
-pub returns-then-from_le-i : goal.returns-then-from_le-i
-returns-then-from_le-i c = no_number c.number_at-from_le.ensures c.if-from_le-i.true
+pub returns-then-from-i : goal.returns-then-from-i
+returns-then-from-i c = no_number (c.from.ensures ∙ c.number_at.ensures) c.if-from-i.true
 
-pub returns-then-has_records : goal.returns-then-has_records
-returns-then-has_records c =
-    is_words (head c.requires.1 c.if-b-ne1.false c.number_at-from_le.ensures c.if-from_le-i.false) c.if-kind-eq1.true c.number_at-c.ensures
-    (decided c.has_records.ensures c.if-has_records.true)
+pub returns-in-1 : goal.returns-in-1
+returns-in-1 c =
+    rw c.then_some.ensures
+    (words_told (head c.requires.1 c.if-b-ne1.false (c.from.ensures ∙ c.number_at.ensures) c.if-from-i.false) c.in-1.is
+    (c.from-c.ensures ∙ c.number_at-2.ensures) c.has_records.ensures)
 
-pub returns-then-kind-eq1 : goal.returns-then-kind-eq1
-returns-then-kind-eq1 c =
-    no_words c.if-kind-eq1.true c.number_at-c.ensures (refuted c.has_records.ensures c.if-has_records.false)
+pub returns-in-2 : goal.returns-in-2
+returns-in-2 c =
+    rw c.then_some-in-2.ensures
+    (rules_told (head c.requires.1 c.if-b-ne1.false (c.from.ensures ∙ c.number_at.ensures) c.if-from-i.false) c.in-2.is
+    (c.from-c.ensures ∙ c.number_at-2.ensures) c.has_records-in-2.ensures)
 
-pub returns-then-has_records-2 : goal.returns-then-has_records-2
-returns-then-has_records-2 c =
-    is_rules (head c.requires.1 c.if-b-ne1.false c.number_at-from_le.ensures c.if-from_le-i.false) c.if-kind-eq2.true c.number_at-c.ensures
-    (decided c.has_records-then-kind-eq2.ensures c.if-has_records-2.true)
+pub returns-after-c-eq0 : goal.returns-after-c-eq0
+returns-after-c-eq0 c = rw c.then_some-in-3.ensures (elim c.if-c-eq0.branch [
+  | then-c-eq0 w ↦ rw w.then_some-is
+      (end_told (head c.requires.1 c.if-b-ne1.false (c.from.ensures ∙ c.number_at.ensures) c.if-from-i.false) c.in-3.is
+      (c.from-c.ensures ∙ c.number_at-2.ensures) w.if-c-eq0.true c.limit_of.ensures w.is_clear.ensures)
+  | else-c-eq0 w ↦ rw (w.then_some-is, ne_eqb _ _ w.if-c-eq0.false)
+      (no_end c.in-3.is (c.from-c.ensures ∙ c.number_at-2.ensures) (λ z. absurd (w.if-c-eq0.false z)))
+])
 
-pub returns-then-kind-eq2 : goal.returns-then-kind-eq2
-returns-then-kind-eq2 c =
-    no_rules c.if-kind-eq2.true c.number_at-c.ensures (refuted c.has_records-then-kind-eq2.ensures c.if-has_records-2.false)
-
-pub returns-then-kind-ne3 : goal.returns-then-kind-ne3
-returns-then-kind-ne3 c = no_kind c.if-kind-eq1.false c.if-kind-eq2.false c.if-kind-ne3.true
-
-pub returns-then-c-ne0 : goal.returns-then-c-ne0
-returns-then-c-ne0 c = no_end c.if-kind-ne3.false c.number_at-c.ensures (λ n z. c.if-c-ne0.true n)
-
-pub returns-then-not-is_clear : goal.returns-then-not-is_clear
-returns-then-not-is_clear c =
-    no_end c.if-kind-ne3.false c.number_at-c.ensures (λ n z. refuted c.is_clear.ensures (not-true _ c.if-not-is_clear.true-raw) z)
-
-pub overflow_cast-result : goal.overflow_cast-result
-overflow_cast-result c = record { fits = four_fit _ _ _ (record { each = λ j. (c.type_inv.b j).fits }) c.load.ensures }
-
-pub returns : goal.returns
-returns c =
-    is_end (head c.requires.1 c.if-b-ne1.false c.number_at-from_le.ensures c.if-from_le-i.false) c.if-kind-ne3.false c.number_at-c.ensures c.if-c-ne0.false
-    c.load.ensures
-    (decided c.is_clear.ensures (not-false _ c.if-not-is_clear.false-raw))
+pub returns-in_default : goal.returns-in_default
+returns-in_default c = no_kind {b = c.args.b.now} (λ e. omega arith) (λ e. omega arith) (λ e. omega arith)

@@ -1,32 +1,19 @@
-use native.Mathlib.Omega.{arith}
-use borrow.Author.Tests.{not-true, not-false}
-use Rattle.lists.specs.Tests.{fails}
-use Rattle.lists.proofs.Deciding.{decided, refuted, decides_as}
-use Rattle.reader.proofs.Gaps.{fewer}
+use Rattle.std.proofs.Common.{sym, ◌∙◌, arith}
+use Rattle.std.proofs.lemmas.Bool.Decides.{nat_tests}
+use Rattle.lists.proofs.Deciding.{decided, refuted}
+use Rattle.reader.proofs.Gaps.{records_fail, records_rest}
+use Rattle.reader.proofs.block.has_records.Goals.{then-c-gt0, else-c-gt0, then-c-most, else-c-most}
 use Rattle.reader.proofs.block.has_records.Goals as goal
 
-pub returns-then-c-eq0 : goal.returns-then-c-eq0
-returns-then-c-eq0 c = fails (λ r. omega (arith, r.some))
+pub returns-then-has_gaps : goal.returns-then-has_gaps
+returns-then-has_gaps c = elim c.if-c-most.branch [
+  | then-c-most w ↦
+      records_rest _ _ _ _ _ w.if-c-most.true.0 w.if-c-most.true.1 (decided w.has_gaps.ensures (sym w.value-is ∙ c.if-has_gaps.true)) c.is_clear.ensures
+  | else-c-most w ↦ elim c.if-c-gt0.branch [ then-c-gt0 v ↦ absurd (grind (arith, nat_tests)) | else-c-gt0 v ↦ absurd (grind (arith, nat_tests)) ]
+]
 
-pub returns-then-c-most : goal.returns-then-c-most
-returns-then-c-most c = fails (λ r. omega (arith, r.fits))
-
-pub has_gaps-requires : goal.has_gaps-requires
-has_gaps-requires c =
-    omega (arith, fewer c.args.size c.args.c c.args.most (omega arith) (omega arith))
-
-pub returns-then-not-has_gaps : goal.returns-then-not-has_gaps
-returns-then-not-has_gaps c = fails (λ r. refuted c.has_gaps.ensures (not-true _ c.if-not-has_gaps.true-raw) (record { clear = r.gaps }))
-
-pub overflow_mul-size : goal.overflow_mul-size
-overflow_mul-size c =
-    omega (arith, fewer c.args.size c.args.c c.args.most (omega arith) (omega arith))
-
-pub overflow_add-size : goal.overflow_add-size
-overflow_add-size c =
-    omega (arith, fewer c.args.size c.args.c c.args.most (omega arith) (omega arith))
-
-pub returns : goal.returns
-returns c =
-    let g = decided c.has_gaps.ensures (not-false _ c.if-not-has_gaps.false-raw) in
-    decides_as (λ z. record { some = omega arith; fits = omega arith; gaps = g.clear; rest = z }) (λ r. r.rest) c.is_clear.ensures
+pub returns-else-has_gaps : goal.returns-else-has_gaps
+returns-else-has_gaps c = rw c.if-has_gaps.false (elim c.if-c-most.branch [
+  | then-c-most w ↦ records_fail _ _ _ _ _ (λ p q. refuted w.has_gaps.ensures (sym w.value-is ∙ c.if-has_gaps.false))
+  | else-c-most w ↦ records_fail _ _ _ _ _ (λ p q g. omega arith)
+])

@@ -8,8 +8,8 @@ use Rattle.blocks.specs.Edition.{edition1}
 use Rattle.blocks.specs.File.{block_at}
 use Rattle.blocks.proofs.Fair.{fair1}
 use Rattle.blocks.proofs.Shape.{run_shaped}
-use Rattle.reader.specs.Scans.{BlockStep, Stands}
-use Rattle.reader.proofs.Turns.{cut, stepped_there, sum_right, sum_wrong, of_going, turn_check, turn_ended, turn_fault, turn_go, turn_done}
+use Rattle.reader.specs.Scans.{Stands}
+use Rattle.reader.proofs.Turns.{cut, stepped_there, sum_right, sum_wrong, of_going, turn_check, turn_ended, turn_next}
 use Rattle.reader.proofs.machine.turn_at.Goals as goal
 
 -- the sum was right
@@ -26,22 +26,13 @@ returns-in_default c =
     turn_ended (record { under = record { each = λ j. (c.type_inv.file j).fits }; room = c.requires.0 }) (subst (Stands _ _) c.in_default.is c.requires.1)
     (right _ _ c.sum_of.ensures c.if-sum_of.false)
 
-pub step_on-s-requires : goal.step_on-s-requires
-step_on-s-requires c =
+pub step_on-requires : goal.step_on-requires
+step_on-requires c =
     let r = run_shaped edition1 fair1 _ (of_going (subst (Stands _ _) c.in-Going.is c.requires.1)) in
     (search rules, r.few, r.many, sum_right c.sum_of.ensures c.if-sum_of.false)
 
-pub returns-in-Go : goal.returns-in-Go
-returns-in-Go c =
-    turn_go (record { under = record { each = λ j. (c.type_inv.file j).fits }; room = c.requires.0 }) (subst (Stands _ _) c.in-Going.is c.requires.1)
-    (subst (BlockStep _ _ _ _) c.in-Go.is (stepped_there _ _ c.step_on-s.ensures))
-
-pub returns-in-Done : goal.returns-in-Done
-returns-in-Done c =
-    turn_done (record { under = record { each = λ j. (c.type_inv.file j).fits }; room = c.requires.0 }) (subst (Stands _ _) c.in-Going.is c.requires.1)
-    (subst (BlockStep _ _ _ _) c.in-Done.is (stepped_there _ _ c.step_on-s.ensures))
-
-pub returns-in-Fault : goal.returns-in-Fault
-returns-in-Fault c =
-    turn_fault (record { under = record { each = λ j. (c.type_inv.file j).fits }; room = c.requires.0 }) (subst (Stands _ _) c.in-Going.is c.requires.1)
-    (right _ _ c.sum_of.ensures c.if-sum_of.false) (subst (BlockStep _ _ _ _) c.in-Fault.is (stepped_there _ _ c.step_on-s.ensures))
+pub returns : goal.returns
+returns c =
+    rw c.ok_or.ensures.value
+    (turn_next (record { under = record { each = λ j. (c.type_inv.file j).fits }; room = c.requires.0 }) (subst (Stands _ _) c.in-Going.is c.requires.1)
+    (right _ _ c.sum_of.ensures c.if-sum_of.false) (stepped_there _ _ c.step_on.ensures))

@@ -1,12 +1,6 @@
-use mathlib.Core.Path.{◌≡◌}
-use Prim.Native.Nat.{◌*◌, ◌≤◌, ◌-◌}
-use lib.ListN.{length, take}
-use Rattle.lists.specs.Lists.{put}
-use Rattle.blocks.specs.Decode.{rules_in}
+use Rattle.std.proofs.Common.{◌≡◌, ℕ, ◌+◌, ◌/◌, ◌%◌, ◌<◌, get_or}
+use Rattle.blocks.specs.Decode.{slot}
 use Rattle.reader.proofs.store.store_rules.Given as goal
 
 abbrev pub invariant-loop-x : goal.invariant-loop-x
-invariant-loop-x l = (l.x ≤ 6 * l.m) × (length l.out ≡ length l.initial.out) × (l.out ≡ put l.initial.out 0 (take l.x (rules_in l.file l.n l.m)))
-
-abbrev pub decreases-loop-x : goal.decreases-loop-x
-decreases-loop-x l = 6 * l.m - l.x
+invariant-loop-x l = (k : ℕ) → k < l.x → get_or l.byte-items k 0 ≡ get_or l.file (l.before + slot (k / 6) + k % 6) 0

@@ -1,12 +1,8 @@
-use mathlib.Core.Path.{◌≡◌}
-use Prim.Native.Nat.{◌*◌, ◌≤◌, ◌-◌}
-use lib.ListN.{length, take}
-use Rattle.lists.specs.Lists.{put}
-use Rattle.blocks.specs.Decode.{words_in}
+use Rattle.std.proofs.Common.{◌≡◌, ℕ, ◌<◌, get_or}
+use Rattle.lists.specs.Lists.{part}
+use Rattle.blocks.specs.Bytes.{from_le}
+use Rattle.blocks.specs.Decode.{slot}
 use Rattle.reader.proofs.store.store_words.Given as goal
 
 abbrev pub invariant-loop-x : goal.invariant-loop-x
-invariant-loop-x l = (l.x ≤ 3 * l.n) × (length l.out ≡ length l.initial.out) × (l.out ≡ put l.initial.out 0 (take l.x (words_in l.file l.n)))
-
-abbrev pub decreases-loop-x : goal.decreases-loop-x
-decreases-loop-x l = 3 * l.n - l.x
+invariant-loop-x l = (k : ℕ) → k < l.x → get_or l.number-items k 0 ≡ from_le (part l.file (slot k) 8)

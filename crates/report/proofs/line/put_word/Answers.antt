@@ -1,6 +1,7 @@
 use Rattle.std.proofs.Common.{◌≡◌, ℕ, ◌+◌, ◌<◌, ◌≤◌, [], ◌∷◌, length}
 use native.Mathlib.Omega.{arith}
 use Rattle.decimal.proofs.Decimals.{decimal_below}
+use Rattle.decimal.proofs.Puts.{room_for, spaced_same}
 use Rattle.decimal.specs.Text.{decimal, spaced}
 use Rattle.report.proofs.Binary.{length_binary}
 use Rattle.report.proofs.Puts.{spaced_one, word_put}
@@ -20,28 +21,28 @@ put-a-requires c =
 
 pub put_all-b-requires : goal.put_all-b-requires
 put_all-b-requires c =
-    omega (arith, c.requires, number_end _ _ _ (omega arith) c.put-a.ensures.ends, c.put-a.auto.out)
+    room_for _ _ _ _ (omega (arith, c.requires, number_end _ _ _ (omega arith) c.put-a.ensures.ends, c.put-a.auto.out))
 
 pub put_bytes-c-requires : goal.put_bytes-c-requires
 put_bytes-c-requires c =
-    let k = width_end _ _ _ _ _ (omega arith) (omega arith) c.put-a.ensures.ends c.put_all-b.ensures.0.ends in
+    let k = width_end _ _ _ _ _ (omega arith) (omega arith) c.put-a.ensures.ends (spaced_same _ c.put_all-b.ensures.text).ends in
     omega (arith, c.requires, k, c.put-a.auto.out, c.put_all-b.auto.out)
 
 pub put_binary-e-requires : goal.put_binary-e-requires
 put_binary-e-requires c =
-    let k = width_end _ _ _ _ _ (omega arith) (omega arith) c.put-a.ensures.ends c.put_all-b.ensures.0.ends in
+    let k = width_end _ _ _ _ _ (omega arith) (omega arith) c.put-a.ensures.ends (spaced_same _ c.put_all-b.ensures.text).ends in
     (c.requires.1, omega (arith, k, c.put_bytes-c.ensures.ends, c.put-a.auto.out, c.put_all-b.auto.out, c.put_bytes-c.auto.out))
 
 pub put_bytes-requires : goal.put_bytes-requires
 put_bytes-requires c =
     let n = length_binary c.args.width c.args.value in
-    let k = width_end _ _ _ _ _ (omega arith) (omega arith) c.put-a.ensures.ends c.put_all-b.ensures.0.ends in
+    let k = width_end _ _ _ _ _ (omega arith) (omega arith) c.put-a.ensures.ends (spaced_same _ c.put_all-b.ensures.text).ends in
     omega (arith, k, c.put_bytes-c.ensures.ends, c.put_binary-e.ensures.ends, c.put_all-b.auto.out, c.put_bytes-c.auto.out, c.put_binary-e.auto.out)
 
 pub returns : goal.returns
 returns c =
     let n = length_binary c.args.width c.args.value in
-    let k = width_end _ _ _ _ _ (omega arith) (omega arith) c.put-a.ensures.ends c.put_all-b.ensures.0.ends in (
-      word_put _ _ _ c.put-a.ensures c.put_all-b.ensures.0 c.put_bytes-c.ensures c.put_binary-e.ensures c.put_bytes.ensures,
+    let k = width_end _ _ _ _ _ (omega arith) (omega arith) c.put-a.ensures.ends (spaced_same _ c.put_all-b.ensures.text).ends in (
+      word_put _ _ _ c.put-a.ensures (spaced_same _ c.put_all-b.ensures.text) c.put_bytes-c.ensures c.put_binary-e.ensures c.put_bytes.ensures,
       omega (arith, k, c.put_bytes-c.ensures.ends, c.put_binary-e.ensures.ends, c.put_bytes.ensures.ends),
     )

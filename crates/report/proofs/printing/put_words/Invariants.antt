@@ -1,5 +1,5 @@
 use mathlib.Core.Path.{◌≡◌}
-use Prim.Native.Nat.{◌+◌, ◌*◌, ◌≤◌, ◌-◌}
+use Prim.Native.Nat.{◌+◌, ◌*◌, ◌≤◌}
 use lib.ListN.{length}
 use Rattle.decimal.specs.Putting.{Appended}
 use Rattle.lists.specs.Lists.{flat}
@@ -9,7 +9,4 @@ use Rattle.report.proofs.printing.put_words.Given as goal
 abbrev pub invariant-loop-i : goal.invariant-loop-i
 invariant-loop-i l =
     Appended l.initial.out l.at (flat l.i (lent_line l.words l.model)) l.out l.e × (length l.out ≡ length l.initial.out)
-    × (l.i ≤ l.n) × (l.e ≤ l.at + 71 * l.i)
-
-abbrev pub decreases-loop-i : goal.decreases-loop-i
-decreases-loop-i l = l.n - l.i
+    × (l.e ≤ l.at + 71 * l.i)

@@ -1,9 +1,7 @@
-use Prim.Native.Nat.{◌≤◌, ◌-◌}
-use Rattle.tighten.specs.Memory.{Numbered}
+use mathlib.Core.Path.{◌≡◌}
+use Prim.Native.Nat.{ℕ, ◌<◌}
+use Rattle.lists.specs.Lists.{at}
 use Rattle.tighten.proofs.buffer.list_all.Given as goal
 
 abbrev pub invariant-loop-j : goal.invariant-loop-j
-invariant-loop-j l = Numbered l.j l.initial.work l.work × (l.j ≤ l.c)
-
-abbrev pub decreases-loop-j : goal.decreases-loop-j
-decreases-loop-j l = l.c - l.j
+invariant-loop-j l = (k : ℕ) → k < l.j → at l.number-items k ≡ k

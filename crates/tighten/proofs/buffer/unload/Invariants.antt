@@ -1,10 +1,6 @@
 use mathlib.Core.Path.{◌≡◌}
-use Prim.Native.Nat.{◌≤◌, ◌-◌}
 use Rattle.tighten.specs.Memory.{put_bounds}
 use Rattle.tighten.proofs.buffer.unload.Given as goal
 
 abbrev pub invariant-loop-i : goal.invariant-loop-i
-invariant-loop-i l = (l.words ≡ put_bounds l.i l.work l.initial.words) × (l.i ≤ l.n)
-
-abbrev pub decreases-loop-i : goal.decreases-loop-i
-decreases-loop-i l = l.n - l.i
+invariant-loop-i l = l.words ≡ put_bounds l.i l.work l.initial.words

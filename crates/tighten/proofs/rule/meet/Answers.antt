@@ -1,15 +1,15 @@
-use native.Mathlib.Omega.{arith}
-use lib.ListN.{length-set}
 use Rattle.tighten.specs.Meeting.{met_by}
+use Rattle.tighten.proofs.Meeting.{span_some, span_none, not_both}
 use Rattle.tighten.proofs.rule.meet.Goals as goal
 
-pub bounds-work-k-then-m-lo : goal.bounds-work-k-then-m-lo
-bounds-work-k-then-m-lo c = simp length-set (omega arith)
-
-pub returns-then-m-lo : goal.returns-then-m-lo
+pub returns-in_err-met : goal.returns-in_err-met
 unfolding met_by
-returns-then-m-lo c = rw c.if-m-lo.true
+returns-in_err-met c =
+    let q = span_none _ _ (rw c.span_at-old.ensures at c.in_err-met.ensures) in
+    rw (c.from_residual.ensures, q)
 
 pub returns : goal.returns
 unfolding met_by
-returns c = rw c.if-m-lo.false
+returns c =
+    let (q, e) = span_some _ _ _ (rw c.span_at-old.ensures at c.in_ok-met.ensures) in
+    rw (c.ne.ensures, not_both, c.span_at-old.ensures, e, q)

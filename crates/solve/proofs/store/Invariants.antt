@@ -1,9 +1,0 @@
-use Prim.Native.Nat.{◌≤◌, ◌-◌}
-use Rattle.solve.specs.Promise.{Stored}
-use Rattle.solve.proofs.store.Given as goal
-
-abbrev pub invariant-loop-i : goal.invariant-loop-i
-invariant-loop-i l = Stored l.i l.work l.initial.model l.model × (l.i ≤ l.n)
-
-abbrev pub decreases-loop-i : goal.decreases-loop-i
-decreases-loop-i l = l.n - l.i
