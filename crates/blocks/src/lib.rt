@@ -21,8 +21,7 @@ pub fn number_at(b: &[u8], j: usize) -> u16
 }
 
 // The sum of a block's 256 sixteen-bit numbers, wrapping at 65,536, worked out where the bytes stand.
-pub fn sum_of(b: &[u8]) -> u16
-    requires { length b.now ≡ 512 }
+pub fn sum_of(b: &[u8; 512]) -> u16
     ensures { result ≡ sum b.now % 65536 }
 {
     (0..256).fold(0u16, |s, j| s.wrapping_add(number_at(b, j)))

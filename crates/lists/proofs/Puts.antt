@@ -6,8 +6,8 @@ use native.Mathlib.Nat.{add-zero}
 use native.Mathlib.Numerals.{add-one}
 use native.Mathlib.Omega.{arith}
 use lib.ListN.{length, take, drop, set, length-append, length-take, length-drop, take-append-drop}
-use lib.Seq.{set_split, take_at, drop_at, drop-drop, length-take-le, take-suc, take-length, drop-length}
-use Rattle.lists.specs.Lists.{at, put}
+use lib.Seq.{set_split, take_at, drop_at, drop-drop, length-take-le, drop-length}
+use Rattle.lists.specs.Lists.{put}
 
 pub put_none : (f : List ℕ) (a : ℕ) → put f a [] ≡ f
 put_none f a = rw add-zero (take-append-drop a f)
@@ -33,21 +33,7 @@ put_put f a e xs ys q h =
     ∙ append_assoc (take a f) xs (ys ++ drop (a + length (xs ++ ys)) f)
     ∙ ap (λ z. take a f ++ z) (sym (append_assoc xs ys (drop (a + length (xs ++ ys)) f)))
 
--- ---- a list put one element a turn
-
-pub put_start : (f : List ℕ) (a : ℕ) (l : List ℕ) → f ≡ put f a (take 0 l)
-put_start f a l = sym (put_none f a)
-
-pub put_turn : (g f : List ℕ) (a i v : ℕ) (l : List ℕ) → a + length l ≤ length f → i < length l → g ≡ put f a (take i l) → v ≡ at l i
-    → set g (a + i) v ≡ put f a (take (i + 1) l)
-put_turn g f a i v l room h e q =
-    let n : length (take i l) ≡ i = length-take-le i l (omega arith) in
-    rw (e, q, add-one, take-suc l i 0 h)
-    (put_one (put f a (take i l)) (a + i) (at l i) (rw (length_put f a (take i l) (omega arith)) (omega arith))
-    ∙ put_put f a (a + i) (take i l) (at l i ∷ []) (omega arith) (omega arith))
-
-pub put_end : (g f : List ℕ) (a i : ℕ) (l : List ℕ) → i ≤ length l → length l ≤ i → g ≡ put f a (take i l) → g ≡ put f a l
-put_end g f a i l p q e = let z : i ≡ length l = omega arith in e ∙ ap (λ t. put f a t) (ap (λ j. take j l) z ∙ take-length l)
+-- ---- what was put is there
 
 -- what was put in front is there
 pub put_take : (a xs : List ℕ) (k : ℕ) → length xs ≡ k → take k (put a 0 xs) ≡ xs

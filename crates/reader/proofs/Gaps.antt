@@ -1,8 +1,8 @@
 -- Bytes that are 0, one more a turn; records with their gaps, one more a turn.
 use mathlib.Core.Path.{◌≡◌, sym, subst, ◌∙◌}
 use mathlib.Core.List.{List}
-use Prim.Native.Nat.{ℕ, suc, ◌+◌, ◌*◌, ◌<◌, ◌≤◌, ◌-◌}
-use native.Mathlib.Nat.{zero-add, mul-suc, mul-le-mul_left}
+use Prim.Native.Nat.{ℕ, ◌+◌, ◌*◌, ◌<◌, ◌≤◌, ◌-◌}
+use native.Mathlib.Nat.{zero-add}
 use native.Mathlib.Omega.{arith}
 use lib.ListN.{length, take, drop, get_or, length-take, length-drop}
 use Rattle.std.proofs.Common.{Bool, true, false, ◌≢◌, MatchBool, get_or-take, get_or-drop}
@@ -46,13 +46,6 @@ gaps_decided size used c b false (k, p, h) =
     let n = length-range_with_len 0 c in
     let i : k < c = omega arith in
     fails (λ z. h 0 (subst (λ j. Clear b (8 + size * j + used) (8 + size * j + 8)) (sym (get_or-range_with_len 0 c k 0 i ∙ zero-add k)) (z.clear k i)))
-
--- a record's bytes lie in the block
-pub inside : (size c j : ℕ) → j < c → size * c ≤ 504 → size * j + size ≤ 504
-inside size c j h l = omega (arith, mul-le-mul_left {m = suc j} {n = c} size h, mul-suc size j)
-
-pub fewer : (size c most : ℕ) → c ≤ most → size * most ≤ 504 → size * c ≤ 504
-fewer size c most h l = omega (arith, mul-le-mul_left {m = c} {n = most} size h)
 
 -- records are not there where a test before them fails, and else as the last one tells
 pub records_fail : (size used most c : ℕ) (b : List ℕ) → (0 < c → c ≤ most → ¬ Gaps size used c b) → Decides (Records size used most c b) false

@@ -26,9 +26,8 @@ pub cut : (f : List ℕ) (i : ℕ) → take (512 * i + 512 - 512 * i) (drop (512
 unfolding part
 cut f i = let z : 512 * i + 512 - 512 * i ≡ 512 = omega arith in rw z
 
-pub stepped_there : (f : List ℕ) (i : ℕ) {n m : ℕ} {s : Option State} → BlockStep (take (512 * i + 512 - 512 * i) (drop (512 * i) f)) i n m s
-    → BlockStep (block_at f i) i n m s
-stepped_there f i {n} {m} {s} = subst (λ b. BlockStep b i n m s) (cut f i)
+pub stepped_there : {b b' : List ℕ} {i n m : ℕ} {s : Option State} → b ≡ b' → BlockStep b i n m s → BlockStep b' i n m s
+stepped_there {i = i} {n = n} {m = m} {s = s} e = subst (λ b. BlockStep b i n m s) e
 
 pub sum_right : {b : List ℕ} {s : ℕ} → s ≡ sum b % 65536 → s ≡ 65535 → Sound b
 sum_right e h = record { makes = sym e ∙ h }

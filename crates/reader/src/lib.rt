@@ -45,10 +45,10 @@ fn keep(file: &[u8], words: &mut [u64], rules: &mut [u8], x: Problem) -> Result<
 pub fn read(file: &[u8], words: &mut [u64], rules: &mut [u8]) -> Result<Problem, Refusal>
     ensures { Reads edition1 file.now words.old rules.old words.new rules.new result }
 {
-    if words.len() / problem::STRIDE < 32 {
+    if words.len() / problem::STRIDE < problem::WORDS {
         return Err(Refusal::Size);
     }
-    if rules.len() / problem::FIELDS < 252 {
+    if rules.len() / problem::FIELDS < problem::RULES {
         return Err(Refusal::Size);
     }
     let x = scan_file(file)?;

@@ -7,10 +7,11 @@ use crate::block::body_of;
 use crate::{Body, State};
 use blocks::Problem;
 use checker::Refusal;
+use problem::{RULES, WORDS};
 
 // The machine's step: a words block may come where no rules were yet, and after full blocks of its kind only.
-fn step_on(b: &[u8], i: usize, words: usize, rules: usize) -> Option<State>
-    requires { (length b.now ≡ 512) × (words ≤ 32) × (rules ≤ 252) × Sound b.now }
+fn step_on(b: &[u8; 512], i: usize, words: usize, rules: usize) -> Option<State>
+    requires { (words ≤ 32) × (rules ≤ 252) × Sound b.now }
     ensures { BlockStep b.now i words rules result }
 {
     match body_of(b, i)? {
@@ -21,7 +22,7 @@ fn step_on(b: &[u8], i: usize, words: usize, rules: usize) -> Option<State>
             if words % 21 != 0 {
                 return None;
             }
-            if c > 32 - words {
+            if c > WORDS - words {
                 return None;
             }
             Some(State::Going(words + c, 0))
@@ -30,7 +31,7 @@ fn step_on(b: &[u8], i: usize, words: usize, rules: usize) -> Option<State>
             if rules % 63 != 0 {
                 return None;
             }
-            if c > 252 - rules {
+            if c > RULES - rules {
                 return None;
             }
             Some(State::Going(words, rules + c))
@@ -49,7 +50,7 @@ fn turn_at(file: &[u8], i: usize, state: State) -> Result<State, Refusal>
     ensures { Turned file.now i result }
 {
     let at = 512 * i;
-    let b = &file[at..at + 512];
+    let b = file[at..at + 512].as_array().unwrap();
     if blocks::sum_of(b) != 65535 {
         return Err(Refusal::Check(i));
     }

@@ -30,12 +30,13 @@ pub fn store_words(file: &[u8], out: &mut [u64], n: usize)
     }
 }
 
-// The bytes of m rules, which stand after the blocks of n words, stored in front; the rest stays as it was.
+// The bytes of m rules, which stand after the blocks of n words, stored in front; the rest stays as it was. Not one function with `store_words`: there each
+// eight bytes of a file are one number, here six of each eight are stored as they are, and only the loop is the same.
 pub fn store_rules(file: &[u8], out: &mut [u8], n: usize, m: usize)
     requires { (n ≤ 32) × (m ≤ 252) × (fields * m ≤ length out.old) × (512 * (word_blocks edition1 n + rule_blocks edition1 m) ≤ length file.now) }
     ensures { out.new ≡ put out.old 0 (rules_in file.now n m) }
 {
-    let before = 512 * ((n + 20) / 21);
+    let before = 512 * n.div_ceil(21);
     for (x, byte) in out[..FIELDS * m].iter_mut().enumerate() {
         *byte = file[before + slot_of(x / FIELDS) + x % FIELDS];
     }

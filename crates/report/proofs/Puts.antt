@@ -69,3 +69,7 @@ pub printed : {l m : List ℕ} {e : ℕ} (x : Report) → Appended l 0 (text_of 
 printed {l} x f =
     let none = zero-add (length (text_of x)) in
     record { ends = f.ends ∙ none; text = f.text ∙ ap (λ k. text_of x ++ drop k l) none }
+
+-- the lent bytes are at the end what the lines in them are
+pub at_end : {x : Report} {l m n : List ℕ} {e : ℕ} → Printed x l m e → n ≡ m → Printed x l n e
+at_end {x} {l} {m} {n} {e} p same = subst (λ t. Printed x l t e) (sym same) p

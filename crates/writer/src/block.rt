@@ -1,4 +1,5 @@
 // A block written whole: records of one form, or the end.
+// It is lent as a slice, not an array: what a part of a file ends as is not known once it is lent on by `as_mut_array`, in an Option.
 ghost use Rattle.std.specs.Prelude.{◌≡◌, ◌+◌, ◌^◌, ◌<◌, ◌≤◌, length};
 ghost use Rattle.blocks.specs.Bytes.{le};
 ghost use Rattle.lists.specs.Lists.{flat};

@@ -11,6 +11,7 @@ pub fn put_zeros(b: &mut [u8], at: usize, k: usize)
     b[at..at + k].fill(0);
 }
 
+// The bytes of xs put at `at`. `decimal::put_bytes` also tells where they end, which nothing asks here: the places in a block are fixed.
 pub fn put_bytes(b: &mut [u8], at: usize, xs: &[u8])
     requires { at + length xs.now ≤ length b.old }
     ensures { b.new ≡ put b.old at xs.now }
@@ -23,16 +24,9 @@ pub fn put_head(b: &mut [u8], kind: u8, i: usize, c: usize)
     requires { 8 ≤ length b.old }
     ensures { b.new ≡ put b.old 0 (headed edition1 kind i c []) }
 {
-    let head = [
-        kind,
-        1,
-        (i % 256) as u8,
-        (i / 256 % 256) as u8,
-        (c % 256) as u8,
-        (c / 256 % 256) as u8,
-        0,
-        0,
-    ];
+    let [i_low, i_high, ..] = i.to_le_bytes();
+    let [c_low, c_high, ..] = c.to_le_bytes();
+    let head = [kind, 1, i_low, i_high, c_low, c_high, 0, 0];
     put_bytes(b, 0, &head);
 }
 
@@ -42,6 +36,6 @@ pub fn finish(b: &mut [u8], at: usize)
     ensures { b.new ≡ seal (put b.old at (zeros (512 - at))) }
 {
     put_zeros(b, at, 512 - at);
-    let s = 65535 - blocks::sum_of(b);
+    let s = 65535 - blocks::sum_of(b.as_array().unwrap());
     put_bytes(b, 6, &s.to_le_bytes());
 }

@@ -26,19 +26,19 @@ returns-then-from-i c = no_number (c.from.ensures ∙ c.number_at.ensures) c.if-
 pub returns-in-1 : goal.returns-in-1
 returns-in-1 c =
     rw c.then_some.ensures
-    (words_told (head c.requires.1 c.if-b-ne1.false (c.from.ensures ∙ c.number_at.ensures) c.if-from-i.false) c.in-1.is
+    (words_told (head c.requires c.if-b-ne1.false (c.from.ensures ∙ c.number_at.ensures) c.if-from-i.false) c.in-1.is
     (c.from-c.ensures ∙ c.number_at-2.ensures) c.has_records.ensures)
 
 pub returns-in-2 : goal.returns-in-2
 returns-in-2 c =
     rw c.then_some-in-2.ensures
-    (rules_told (head c.requires.1 c.if-b-ne1.false (c.from.ensures ∙ c.number_at.ensures) c.if-from-i.false) c.in-2.is
+    (rules_told (head c.requires c.if-b-ne1.false (c.from.ensures ∙ c.number_at.ensures) c.if-from-i.false) c.in-2.is
     (c.from-c.ensures ∙ c.number_at-2.ensures) c.has_records-in-2.ensures)
 
 pub returns-after-c-eq0 : goal.returns-after-c-eq0
 returns-after-c-eq0 c = rw c.then_some-in-3.ensures (elim c.if-c-eq0.branch [
   | then-c-eq0 w ↦ rw w.then_some-is
-      (end_told (head c.requires.1 c.if-b-ne1.false (c.from.ensures ∙ c.number_at.ensures) c.if-from-i.false) c.in-3.is
+      (end_told (head c.requires c.if-b-ne1.false (c.from.ensures ∙ c.number_at.ensures) c.if-from-i.false) c.in-3.is
       (c.from-c.ensures ∙ c.number_at-2.ensures) w.if-c-eq0.true c.limit_of.ensures w.is_clear.ensures)
   | else-c-eq0 w ↦ rw (w.then_some-is, ne_eqb _ _ w.if-c-eq0.false)
       (no_end c.in-3.is (c.from-c.ensures ∙ c.number_at-2.ensures) (λ z. absurd (w.if-c-eq0.false z)))

@@ -8,7 +8,8 @@ use Rattle.reader.proofs.block.has_gaps.Goals as goal
 pub returns : goal.returns
 returns c =
     let b = c.args.b.now in
-    gaps_decided c.args.size c.args.used c.args.c b c.all.result
-    (cases_from_all _ _ _ (λ j. Clear b (8 + c.args.size * j + c.args.used) (8 + c.args.size * j + 8))
-    (λ j. ¬ Clear b (8 + c.args.size * j + c.args.used) (8 + c.args.size * j + 8)) c.all.ensures.ran
+    let s = c.args.shape in
+    gaps_decided s.size s.used c.args.c b c.all.result
+    (cases_from_all _ _ _ (λ j. Clear b (8 + s.size * j + s.used) (8 + s.size * j + 8))
+    (λ j. ¬ Clear b (8 + s.size * j + s.used) (8 + s.size * j + 8)) c.all.ensures.ran
     (YieldsList-from_range 0 c.args.c c.args.c refl (omega arith)) (λ x q k. search (rules, decided)) (λ x q k. search (rules, refuted)))
