@@ -32,6 +32,8 @@ ANSWERS = "FOUND NONE GAVE_UP OK TIGHT CONFLICT FORCED FREE EXISTS CAUSE".split(
 KINDS = "COPY NOT AND OR XOR ADD ITE SLICE JOIN SHL SHR ULE ULT NE".split()
 # what the wrapper has in types of its own, or not at all
 NOT_WRAPPED = {"BLOCK_BYTES"} | {"KIND_" + x for x in KINDS} | {"PLACE_" + x for x in "RABS"}
+# the functions of C that the library asks of whoever links it
+ASKED = ["memset"]
 
 
 class Tally:
@@ -337,9 +339,16 @@ def calls(tally, folder):
         tally.add(int(counts.group(1)), int(counts.group(2)))
 
 
+def asked(tally, folder):
+    """A program without the C library has to bring what the archive asks from outside."""
+    status, out, _ = run(["nm", "-P", "-u", f"{folder}/libsievecrest.a"])
+    tally.same("libsievecrest.a asks from outside", (status, re.findall(r"^(\S+) U\b", out.decode(errors="replace"), re.M)), (0, ASKED))
+
+
 def from_c(tally, folder):
     progress("the header, its worked example and every call from C")
     os.makedirs(BUILT, exist_ok=True)
+    asked(tally, folder)
     text, printed = example()
     tally.same(f"{WORKED} is the example of {HEADER}", text_of(WORKED), text)
     worked(tally, ["cc", "-std=c99"], "worked", folder, printed)

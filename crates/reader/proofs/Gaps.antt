@@ -1,11 +1,12 @@
--- Bytes that are 0, one more a turn; records with their gaps, one more a turn.
+-- Bytes that are 0, one more a turn; records with their gaps, as they were looked at.
 use mathlib.Core.Path.{◌≡◌, sym, subst, ◌∙◌}
 use mathlib.Core.List.{List}
-use Prim.Native.Nat.{ℕ, ◌+◌, ◌*◌, ◌<◌, ◌≤◌, ◌-◌}
+use Prim.Native.Nat.{ℕ, ◌+◌, ◌*◌, ◌<◌, ◌≤◌}
 use native.Mathlib.Nat.{zero-add}
+use native.Mathlib.Decide.{dec_lt}
 use native.Mathlib.Omega.{arith}
-use lib.ListN.{length, take, drop, get_or, length-take, length-drop}
-use Rattle.std.proofs.Common.{Bool, true, false, ◌≢◌, MatchBool, get_or-take, get_or-drop}
+use lib.ListN.{length}
+use Rattle.std.proofs.Common.{Bool, true, false, MatchBool}
 use Rattle.std.proofs.lemmas.List.FromFn.{get_or-range_with_len, length-range_with_len}
 use Rattle.std.specs.List.{AllWithin, HoldsAt, range_with_len}
 use Rattle.lists.specs.Lists.{at}
@@ -14,22 +15,19 @@ use Rattle.lists.proofs.Deciding.{decides_as}
 use Rattle.blocks.specs.Block.{Clear, Records}
 use Rattle.reader.specs.Tests.{Gaps}
 
--- the bytes that were looked at, all 0 or one of them not
-pub clear_decided : (b : List ℕ) (from to : ℕ) (r : Bool) → to ≤ length b
-    → MatchBool r (AllWithin (λ x. x ≡ 0) (take (to - from) (drop from b)) 0 (length (take (to - from) (drop from b))))
-    ((k : ℕ) × (k < length (take (to - from) (drop from b))) × HoldsAt (λ x. x ≢ 0) (take (to - from) (drop from b)) k)
-    → Decides (Clear b from to) r
-clear_decided b from to true l m = holds (record { zero_at = λ x p q. go x p q (m (x - from) 0) })
+-- bytes that are 0, one more a turn
+pub clear_none : (b : List ℕ) (a : ℕ) → Clear b a a
+clear_none b a = record { zero_at = λ x h l. absurd (omega arith) }
+
+pub clear_more : (b : List ℕ) (a x : ℕ) → Clear b a x → at b x ≡ 0 → Clear b a (x + 1)
+clear_more b a x h e = record { zero_at = λ y p q. go y p q (dec_lt y x) }
   where
-    go : (x : ℕ) → from ≤ x → x < to → (0 ≤ x - from → x - from < length (take (to - from) (drop from b))
-        → get_or (take (to - from) (drop from b)) (x - from) 0 ≡ 0) → at b x ≡ 0
-    go x p q h =
-        let e : from + (x - from) ≡ x = omega arith in
-        let i : x - from < to - from = omega arith in
-        (rw (get_or-take, get_or-drop, e) at h (omega arith) (simp (length-take, length-drop) (omega arith)))
-clear_decided b from to false l (k, p, h) =
-    let i : k < to - from = omega (arith, length-take (to - from) (drop from b)) in
-    fails (λ z. h 0 (rw (get_or-take, get_or-drop) (z.zero_at (from + k) (omega arith) (omega arith))))
+    go : (y : ℕ) → a ≤ y → y < x + 1 → Dec (y < x) → at b y ≡ 0
+    go y p q (yes l) = h.zero_at y p l
+    go y p q (no l) = let z : y ≡ x = omega arith in rw z e
+
+pub clear_all : (b : List ℕ) (a x y : ℕ) → Clear b a x → y ≤ x → Clear b a y
+clear_all b a x y h l = record { zero_at = λ z p q. h.zero_at z p (omega arith) }
 
 -- the records that were looked at, all clear or one of them not
 pub gaps_decided : (size used c : ℕ) (b : List ℕ) (r : Bool)

@@ -39,10 +39,15 @@ pub fn load(b: &[u8], at: usize) -> u64
 
 // Whether the bytes from one place up to another are 0.
 fn is_clear(b: &[u8], from: usize, to: usize) -> bool
-    requires { (from ≤ to) × (to ≤ length b.now) }
+    requires { to ≤ length b.now }
     ensures { Decides (Clear b.now from to) result }
 {
-    b[from..to].iter().all(|&x| x == 0)
+    for x in from..to {
+        if b[x] != 0 {
+            return false;
+        }
+    }
+    true
 }
 
 // Whether the unused bytes among the first eight are 0 in each of c records.

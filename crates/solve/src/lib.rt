@@ -22,7 +22,9 @@ fn store(model: &mut [u64], work: &[u64], n: usize)
     requires { (n ≤ length model.old) × (n ≤ length work.now) }
     ensures { Stored n work.now model.old model.new }
 {
-    model[..n].copy_from_slice(&work[..n]);
+    for i in 0..n {
+        model[i] = work[i];
+    }
 }
 
 // A proper problem solved: all its rules listed, the search, the settings stored where there are some, and the memory cleared.

@@ -1,3 +1,4 @@
+pub mod Moving
 pub mod Undoing
 pub mod Keeping
 pub mod Room

@@ -72,6 +72,8 @@ pub fn copy_table(work: &mut [u64], n: usize, from: usize, to: usize)
     requires { (n ≤ 32) × (from + 64 ≤ length work.old) × (to + 64 ≤ length work.old) × ((from + 64 ≤ to) ⊎ (to + 64 ≤ from)) }
     ensures { Moved n from to work.old work.new }
 {
-    work.copy_within(from..from + n, to);
-    work.copy_within(from + HIGH..from + HIGH + n, to + HIGH);
+    for i in 0..n {
+        work[to + i] = work[from + i];
+        work[to + HIGH + i] = work[from + HIGH + i];
+    }
 }
