@@ -35,7 +35,7 @@ fn is_fitting(kind: Kind, words: &[u64], x: Fields) -> bool
     requires { kind_named kind ≡ kind_of x.kind }
     ensures { result ≡ is_fitting words.now (rule_of x) }
 {
-    let w = problem::widths_of(words, x);
+    let w = problem::widths_of(words, x.words());
     fit::fits(kind.class(), w, u64::from(x.k))
 }
 

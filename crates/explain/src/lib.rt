@@ -89,11 +89,12 @@ fn explain_proper(
     let Ok(kind) = Kind::try_from(x.kind) else {
         unreachable!()
     };
-    let t = problem::bounds_of(problem.words, x);
+    let at = x.words();
+    let t = problem::bounds_of(problem.words, at);
     let q = Question {
         kind,
         k: u64::from(x.k),
-        w: problem::widths_of(problem.words, x),
+        w: problem::widths_of(problem.words, at),
         place,
         bit,
     };

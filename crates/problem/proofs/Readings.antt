@@ -15,7 +15,7 @@ use Rattle.problem.specs.declared.kinds.Kind as kinds
 use Rattle.problem.specs.Named.{kind_named}
 use Rattle.problem.specs.Lent.{stride, widths_of, table_of, rule_at}
 use Rattle.problem.specs.Places.{width_of, lo_of, hi_of, span_of, shape_of}
-use Rattle.problem.specs.Reading.{fields_at, rule_of, widths_at, bounds_at}
+use Rattle.problem.specs.Reading.{fields_at, rule_of, widths_of_words, widths_at, bounds_of_words, bounds_at}
 use Rattle.problem.proofs.Lents.{width_at_lem, lo_at_lem, hi_at_lem}
 
 pub rule_read : (bs : List ℕ) (n : ℕ) → rule_of (fields_at bs n) ≡ rule_at bs n
@@ -38,7 +38,7 @@ words_below {w} {ρ} h p = go (uses (kind_of ρ.kind) p) refl
 module _ (ws bs : List ℕ) (whole : length ws % stride ≡ 0) (n : ℕ) where
   pub shape_read : (κ : kinds.Kind) → kind_named κ ≡ kind_of (fields_at bs n).kind
       → shape_of κ (fields_at bs n).k (widths_at ws (fields_at bs n)) ≡ shape (widths_of ws) (rule_at bs n)
-  unfolding fields_at widths_at
+  unfolding fields_at widths_of_words
   shape_read κ e = λ i. record { kind = e i; k = (rule_at bs n).k; width = fun_ext width i }
     where
       width : (p : Place) → width_of (widths_at ws (fields_at bs n)) p ≡ at (widths_of ws) (word (rule_at bs n) p)
@@ -48,7 +48,7 @@ module _ (ws bs : List ℕ) (whole : length ws % stride ≡ 0) (n : ℕ) where
       width S = sym (width_at_lem ws whole (rule_at bs n).s)
 
   pub span_read : span_of (bounds_at ws (fields_at bs n)) ≡ span (table_of ws) (rule_at bs n)
-  unfolding fields_at bounds_at
+  unfolding fields_at bounds_of_words
   span_read = λ i. record { lo = fun_ext low i; hi = fun_ext high i }
     where
       low : (p : Place) → lo_of (bounds_at ws (fields_at bs n)) p ≡ at (table_of ws).lo (word (rule_at bs n) p)

@@ -9,7 +9,7 @@ ghost use Rattle.rules.specs.Tight.{word};
 ghost use Rattle.problem.specs.Lent.{fields, width_at};
 ghost use Rattle.problem.specs.Named.{place_named};
 ghost use Rattle.problem.specs.Places.{at_place, met};
-ghost use Rattle.problem.specs.Reading.{fields_at, rule_of, pair_at, widths_at, bounds_at};
+ghost use Rattle.problem.specs.Reading.{fields_at, rule_of, words_of, pair_at, widths_of_words, bounds_of_words};
 
 use kinds::Place;
 
@@ -47,7 +47,7 @@ impl Fields {
 
     // The numbers of the words that stand at the places.
     pub fn words(self) -> Places<u8>
-        ensures { result ≡ record { r = self.r; a = self.a; b = self.b; s = self.s } }
+        ensures { result ≡ words_of self }
     {
         Places {
             r: self.r,
@@ -174,18 +174,18 @@ fn span_at(words: &[u64], word: u8) -> Span
     }
 }
 
-// The widths of the words that a rule names.
-#[tactic(auto, unfolding(crate::specs::Reading::widths_at))]
-pub fn widths_of(words: &[u64], x: Fields) -> Widths
-    ensures { result ≡ widths_at words.now x }
+// The widths of the words that a rule names, by their numbers.
+#[tactic(auto, unfolding(crate::specs::Reading::widths_of_words))]
+pub fn widths_of(words: &[u64], at: Places<u8>) -> Widths
+    ensures { result ≡ widths_of_words words.now at }
 {
-    x.words().map(|word| width_at(words, word))
+    at.map(|word| width_at(words, word))
 }
 
 // Their bounds in the table as it is lent.
-#[tactic(auto, unfolding(crate::specs::Reading::bounds_at))]
-pub fn bounds_of(words: &[u64], x: Fields) -> Bounds
-    ensures { result ≡ bounds_at words.now x }
+#[tactic(auto, unfolding(crate::specs::Reading::bounds_of_words))]
+pub fn bounds_of(words: &[u64], at: Places<u8>) -> Bounds
+    ensures { result ≡ bounds_of_words words.now at }
 {
-    x.words().map(|word| span_at(words, word))
+    at.map(|word| span_at(words, word))
 }

@@ -58,7 +58,7 @@ pub fn apply(work: &mut [u64], problem: &Proper<'_>, j: usize) -> Option<bool>
     ensures { Applied problem.now.words.now problem.now.rules.now j work.old work.new result }
 {
     let x = problem::fields_of(problem.rules, j);
-    let w = problem::widths_of(problem.words, x);
+    let w = problem::widths_of(problem.words, x.words());
     let t = bounds_at(work, x);
     let Ok(kind) = Kind::try_from(x.kind) else {
         unreachable!()

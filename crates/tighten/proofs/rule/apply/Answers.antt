@@ -15,7 +15,7 @@ narrow-requires c =
     rw c.from.ensures
     (asked (ready c.args.problem.now.fine c.requires.0) c.args.j c.requires.1 c.fields_of-x.result c.fields_of-x.ensures c.in-Ok.kind c.in-Ok.ensures.1
     c.widths_of-w.result
-    c.bounds_at-t.result c.widths_of-w.ensures c.bounds_at-t.ensures)
+    c.bounds_at-t.result (rw c.words.ensures at c.widths_of-w.ensures) c.bounds_at-t.ensures)
 
 pub meet_all-requires : goal.meet_all-requires
 meet_all-requires c =
@@ -26,11 +26,11 @@ returns-in_err-left c =
     rw c.from_residual.ensures
     (applied_none (ready c.args.problem.now.fine c.requires.0) c.args.j c.requires.1 c.fields_of-x.result c.fields_of-x.ensures c.in-Ok.kind c.in-Ok.ensures.1
     c.widths_of-w.result
-    c.bounds_at-t.result c.widths_of-w.ensures c.bounds_at-t.ensures (rw c.from.ensures at c.in_err-left.ensures))
+    c.bounds_at-t.result (rw c.words.ensures at c.widths_of-w.ensures) c.bounds_at-t.ensures (rw c.from.ensures at c.in_err-left.ensures))
 
 pub returns : goal.returns
 returns c =
     applied_met (ready c.args.problem.now.fine c.requires.0) c.args.j c.requires.1 c.fields_of-x.result c.fields_of-x.ensures c.in-Ok.kind c.in-Ok.ensures.1
     c.widths_of-w.result
-    c.bounds_at-t.result c.widths_of-w.ensures c.bounds_at-t.ensures c.in_ok-left.left (rw c.from.ensures at c.in_ok-left.ensures)
+    c.bounds_at-t.result (rw c.words.ensures at c.widths_of-w.ensures) c.bounds_at-t.ensures c.in_ok-left.left (rw c.from.ensures at c.in_ok-left.ensures)
     c.meet_all.result _ c.meet_all.ensures
