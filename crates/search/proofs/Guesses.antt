@@ -3,25 +3,20 @@ use mathlib.Core.Path.{◌≡◌, sym, ap, ◌∙◌}
 use mathlib.Core.Logic.{◌≢◌, inr}
 use mathlib.Core.List.{List}
 use Prim.Native.Nat.{ℕ, ◌+◌, ◌^◌, ◌≤◌, ◌<◌, ◌-◌}
-use native.Mathlib.Nat.{zero-add, add_comm}
+use native.Mathlib.Nat.{zero-add}
 use native.Mathlib.Omega.{arith}
 use native.Mathlib.Decide.{dec_lt}
 use lib.Bits.{bit_xor}
-use borrow.Author.Tests.{ltb-true, ltb-false, not-true, not-false}
-use Rattle.std.proofs.Common.{Option, None, Some, Bool, true, false, not, cond, nat_lt, get_or, refl, ap₂}
-use Rattle.std.specs.List.{position, position_or_len, zip}
-use Rattle.std.proofs.lemmas.List.Sums.{prefix_len_passes, prefix_len_stops}
-use Rattle.std.proofs.lemmas.Slice.Zip.{get_or-zip, length-zip}
-use lib.ListN.{length, take, drop, set, length-set, length-take, length-drop}
-use lib.Seq.{get_or-take, get_or-drop, take-set-le, drop-set-lt, get_or-set_other}
+use Rattle.std.proofs.Common.{Option, None, Some, MatchOption}
+use lib.ListN.{length, take, drop, set, length-set}
+use lib.Seq.{take-set-le, drop-set-lt, get_or-set_other}
 use Rattle.words.specs.Bits.{bit}
-use Rattle.words.specs.Word.{open_in, top_open}
+use Rattle.words.specs.Word.{top_open}
 use Rattle.words.specs.Table.{Inside, Open, Guess, Done, with0, with1}
 use Rattle.lists.specs.Lists.{at}
 use Rattle.words.proofs.Order.{⊑_le, bit_of_zero, bits_ext}
 use Rattle.words.proofs.Ops.{bit_xor_lem}
 use Rattle.words.proofs.Tables.{in_reach, table_path}
-use Rattle.words.proofs.Falls.{none_open, open_none}
 use Rattle.words.proofs.Single.{top_open_lem}
 use Rattle.tighten.specs.Memory.{table_in}
 use Rattle.lists.proofs.Sets.{take_set_lt, drop_set_add}
@@ -84,49 +79,13 @@ module _ (n : ℕ) (l : List ℕ) (i : ℕ) (below : i < n) (most : n ≤ 32) wh
 
 -- ---- the word
 
--- the bounds of the words, side by side, and whether two leave a bit open
-module _ (n : ℕ) (l : List ℕ) (most : n ≤ 32) (room : 64 ≤ length l) where
-  sides : List (ℕ × ℕ)
-  sides = zip (take n (take 32 l)) (drop 32 l)
-
-  gap : ℕ × ℕ → Bool
-  gap x = nat_lt 0 (open_in x.0 x.1)
-
-  size : length sides ≡ n
-  unfolding sides
-  size = length-zip (take n (take 32 l)) (drop 32 l) ∙ simp (length-take, length-drop) (omega arith)
-
-  side : (i : ℕ) → i < n → get_or sides i (0, 0) ≡ (at l i, at l (i + 32))
-  unfolding sides
-  side i h =
-      get_or-zip (take n (take 32 l)) (drop 32 l) i (0, 0) (simp length-take (omega arith)) (simp length-drop (omega arith))
-      ∙ ap₂ (λ x y. (x, y)) (get_or-take n (take 32 l) i 0 h ∙ get_or-take 32 l i 0 (omega arith)) (get_or-drop 32 l i 0 ∙ ap (at l) (add_comm 32 i))
-
-  -- up to the first place with an open bit
-  first : ℕ
-  first = position_or_len gap sides
-
-  shut_before : (i : ℕ) → i < first → i < n → at l i ≡ at l (i + 32)
-  unfolding first gap
-  shut_before i h k =
-      let e = rw (side i k) at (prefix_len_passes (λ x. not (gap x)) sides i (0, 0) h) in
-      open_none _ _ (omega (arith, ltb-false _ _ (not-true _ e)))
-
-  open_here : first < n → at l first ≢ at l (first + 32)
-  unfolding first gap
-  open_here h same =
-      let e = rw (side first h) at (prefix_len_stops (λ x. not (gap x)) sides (0, 0) (rw size h)) in
-      omega (arith, ltb-true _ _ (not-false _ e), none_open _ _ same)
-
-  pub lowest_first : {r : Option ℕ} → r ≡ position (λ x. nat_lt 0 (open_in x.0 x.1)) (zip (take n (take 32 l)) (drop 32 l)) → Lowest n l r
-  unfolding first gap sides
-  lowest_first e = rw e (go (nat_lt first (length sides)) refl)
-    where
-      go : (b : Bool) → nat_lt first (length sides) ≡ b → Lowest n l (cond b (Some first) None)
-      go true f =
-          let h : first < n = omega (arith, ltb-true _ _ f, size) in
-          record { below = h; same = λ i k. shut_before i k (omega arith); differs = open_here h }
-      go false f = λ i h. shut_before i (omega (arith, ltb-false _ _ f, size)) h
+-- the first word whose bounds leave a bit open
+pub lowest_first : (n : ℕ) (l : List ℕ) (r : Option ℕ)
+    → MatchOption r ((k : ℕ) → 0 ≤ k → k < n → at l k ≡ at l (k + 32))
+    (λ i. (0 ≤ i) × (i < n) × (at l i ≢ at l (i + 32)) × ((k : ℕ) → 0 ≤ k → k < i → at l k ≡ at l (k + 32)))
+    → Lowest n l r
+lowest_first n l None h = λ i k. h i (omega arith) k
+lowest_first n l (Some i) h = record { below = h.1; same = λ k g. h.3 k (omega arith) g; differs = h.2 }
 
 module _ {n : ℕ} (l : List ℕ) (most : n ≤ 32) (room : 64 ≤ length l) where
   -- a word whose bounds are the same has no open bit

@@ -1,27 +1,15 @@
 // The guess: the lowest-numbered word with an open bit, its highest open bit fixed 0, and then fixed 1 in the tight table.
-ghost use Rattle.std.specs.Prelude.{◌≡◌, ◌+◌, ◌<◌, ◌≤◌, length, nat_lt};
-ghost use Rattle.std.specs.List.{position, zip};
-ghost use Rattle.words.specs.Word.{open_in};
+ghost use Rattle.std.specs.Prelude.{◌≡◌, ◌+◌, ◌<◌, ◌≤◌, length};
 ghost use Rattle.search.specs.Guessing.{Lowest, Fixable, zero_fixed, one_fixed, Copied, Second};
 
 use tighten::buffer::HIGH;
-
-// The first place at which two lists of bounds leave a bit open.
-fn first_open(low: &[u64], high: &[u64]) -> Option<usize>
-    ensures { result ≡ position (λ x. nat_lt 0 (open_in x.0 x.1)) (zip low.now high.now) }
-{
-    low.iter()
-        .zip(high)
-        .position(|(lo, hi)| words::open_bits(*lo, *hi) > 0)
-}
 
 // The lowest-numbered of n words with an open bit.
 pub fn open_word(work: &[u64], n: usize) -> Option<usize>
     requires { (n ≤ 32) × (64 ≤ length work.now) }
     ensures { Lowest n work.now result }
 {
-    let (low, high) = work.split_at(HIGH);
-    first_open(&low[..n], high)
+    (0..n).find(|&i| words::open_bits(work[i], work[i + HIGH]) > 0)
 }
 
 // The highest open bit of a word fixed 0.
