@@ -10,6 +10,7 @@ What C must keep, since no call can test it:
   - no lent buffer overlaps another one;
   - while a call runs, nobody else writes what is lent to it, or reads what the call may write;
   - a call that searches (solve, cause, advise) has enough stack: one mebibyte was enough on the boards measured, and docs/MANUAL.md says how much was used.
+A program without the C library brings a memset, the only function that libsievecrest.a asks for.
 No call keeps anything after it has returned, so calls with buffers of their own may run at the same time.
 
 What comes back. Every call returns one number of 64 bits: the answer's own number in bits 0 to 7, below SIEVECREST_FOUND a refusal; in bits 8 to 39 its

@@ -420,7 +420,7 @@ def main():
     begin = time.monotonic()
     if len(sys.argv) != 2 or not os.access(sys.argv[1], os.X_OK):
         stop("give the adviser program, proved and linked, as crates/advise/out/advise")
-    for tool, package in (("cc", "gcc"), ("c++", "g++"), ("cargo", "cargo")):
+    for tool, package in (("cc", "gcc"), ("c++", "g++"), ("nm", "binutils"), ("cargo", "cargo")):
         if shutil.which(tool) is None:
             stop(f"{tool} is missing; install the package {package}")
     tally = Tally()

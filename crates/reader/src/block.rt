@@ -37,7 +37,8 @@ pub fn load(b: &[u8], at: usize) -> u64
     u64::from_le_bytes(b[at..at + 8].try_into().unwrap())
 }
 
-// Whether the bytes from one place up to another are 0.
+// Whether the bytes from one place up to another are 0. Most bytes of a small file are looked at here, and the iterator's `all` takes nearly twice the
+// instructions for each.
 fn is_clear(b: &[u8], from: usize, to: usize) -> bool
     requires { to ≤ length b.now }
     ensures { Decides (Clear b.now from to) result }

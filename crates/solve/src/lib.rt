@@ -17,7 +17,7 @@ pub enum Solved {
 // The numbers of work memory that solving needs.
 pub const WORK: usize = 4608;
 
-// The settings, which are the first n numbers of memory, put into the model.
+// The settings, which are the first n numbers of memory, put into the model. By the library's `copy_from_slice` the archive for C would ask for `memmove`.
 fn store(model: &mut [u64], work: &[u64], n: usize)
     requires { (n ≤ length model.old) × (n ≤ length work.now) }
     ensures { Stored n work.now model.old model.new }

@@ -67,7 +67,7 @@ pub fn rollback(work: &mut [u64], base: usize, entries: usize)
     }
 }
 
-// The bounds of n words, from one place in memory to another.
+// The bounds of n words, from one place in memory to another. By the library's `copy_within` the archive for C would ask for `memmove`.
 pub fn copy_table(work: &mut [u64], n: usize, from: usize, to: usize)
     requires { (n ≤ 32) × (from + 64 ≤ length work.old) × (to + 64 ≤ length work.old) × ((from + 64 ≤ to) ⊎ (to + 64 ≤ from)) }
     ensures { Moved n from to work.old work.new }
